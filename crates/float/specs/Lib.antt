@@ -1,0 +1,5 @@
+-- What f64 needs and Rattle lacks, and the operators and constants that every definition above uses.
+pub mod Operators
+pub mod Constants
+pub mod Sign
+pub mod Limits
