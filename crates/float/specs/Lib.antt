@@ -3,3 +3,4 @@ pub mod Operators
 pub mod Constants
 pub mod Sign
 pub mod Limits
+pub mod Units

@@ -1,0 +1,16 @@
+-- Near the top the numbers that p digits hold are so far apart that a sum with a small one does not overflow.
+use Prim.Native.Nat.{ℕ, _+_, _*_, _^_, _<_}
+use native.Mathlib.Omega.{arith}
+use Rattle.float.proofs.Representable.{Representable}
+use Rattle.float.proofs.Rounded.{rounded-whole}
+use Rattle.float.proofs.HalfUnit.{whole-half-unit}
+use Rattle.float.proofs.Spacing.{gap}
+
+-- below 2 ^ (p + k) the last gap is 2 ^ k: a sum with less than half of it does not reach 2 ^ (p + k)
+pub whole-sum-below : {p n : ℕ} (k m : ℕ) → 0 < p → Representable p n → n < 2 ^ (p + k) → 2 * m < 2 ^ k
+    → rounded-whole p (n + m) < 2 ^ (p + k)
+whole-sum-below {p} {n} k m P r h l =
+    let g = gap k P r h in
+    let s : n + m < 2 ^ (p + k) = omega arith in
+    let w = whole-half-unit p k s in
+    omega arith
