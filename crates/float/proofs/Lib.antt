@@ -31,6 +31,7 @@ pub mod SignedUnits
 -- ---- the operators
 mod CommonUnits
 pub mod Negation
+pub mod AbsoluteValue
 pub mod Sum
 pub mod Product
 pub mod Quotient
