@@ -1,0 +1,3 @@
+pub mod Tolerances
+pub mod Newton
+pub mod AmericanPolyconic

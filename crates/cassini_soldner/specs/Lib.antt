@@ -1,0 +1,4 @@
+pub mod Constants
+pub mod Arc
+pub mod Series
+pub mod CassiniSoldner

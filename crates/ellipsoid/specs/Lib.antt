@@ -1,0 +1,4 @@
+pub mod Refusals
+pub mod Ellipsoid
+pub mod Names
+pub mod Units

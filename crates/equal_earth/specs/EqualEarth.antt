@@ -1,0 +1,148 @@
+-- Equal Earth (Šavrič, Patterson and Jenny, 2018; IOGP 7-2 method 1078), in the source's order of operations.
+-- The source writes ψ for the parametric latitude that both papers call θ.
+use mathlib.Core.Path.{_≡_, refl}
+use mathlib.Core.List.{List, [], _∷_}
+use mathlib.Core.Bool.{cond}
+use Prim.Native.Nat.{ℕ, _^_}
+use lib.Ieee.{Float, neg, ofBits, round, mul, div}
+use Rattle.float.specs.Operators.{_⊕_, _⊖_, _⊗_, _⊘_, _≈_, f64}
+use Rattle.float.specs.Constants.{+0, half, one, two, three, FRAC-PI-2, ratio}
+use Rattle.float.specs.Limits.{clamp}
+use Rattle.root.specs.Root.{root}
+use Rattle.fixed.specs.Trigonometry.{sine, cosine}
+use Rattle.fixed.specs.Arctangent.{arcsine}
+use Rattle.ellipsoid.specs.Ellipsoid.{e2}
+use Rattle.ellipsoid.specs.declared.Ellipsoid.{Ellipsoid}
+use Rattle.projection.specs.Refusals.{FALSE-EASTING, FALSE-NORTHING}
+use Rattle.projection.specs.Checks.{or-else, guard, validate-angle, validate-offset, validate-lon-lat, validate-projected}
+use Rattle.projection.specs.Longitude.{normalize-longitude}
+use Rattle.projection.specs.Authalic.{authalic-q, geodetic-from-authalic}
+use Rattle.projection.specs.Iteration.{converge}
+use Rattle.projection.specs.Ends.{ensure-finite-xy, finish}
+use Rattle.projection.specs.declared.Answer.{Answer}
+use Rattle.projection.specs.declared.Answer.the-variants.{Pair, Refused}
+use Rattle.projection.specs.declared.Settled.{Settled}
+use Rattle.projection.specs.declared.Settled.the-variants as settled
+use Rattle.equal_earth.specs.declared.EqualEarth.{EqualEarth}
+use Rattle.equal_earth.specs.declared.BuiltEqualEarth.{BuiltEqualEarth}
+use Rattle.equal_earth.specs.declared.BuiltEqualEarth.the-variants as built
+
+abbrev pub A1 : Float
+A1 = f64 0x3ff571b8aa00192a
+
+abbrev pub A2 : Float
+A2 = f64 0xbfb4c35ce1826677
+
+abbrev pub A3 : Float
+A3 = f64 0x3f4d4306e5cd4ed3
+
+abbrev pub A4 : Float
+A4 = f64 0x3f6f18c9fb6134ce
+
+abbrev c7 : Float
+c7 = f64 0x401c000000000000
+
+abbrev c9 : Float
+c9 = f64 0x4022000000000000
+
+-- the sine of the pole's ψ
+abbrev pub M : Float
+M = f64 0x3febb67ae8584caa
+
+-- the northing of the pole on the unit sphere
+abbrev pub MAX-Y : Float
+MAX-Y = f64 0x3ff513eaf8f8ca2b
+
+abbrev pub TOLERANCE : Float
+TOLERANCE = f64 0x3da5fd7fe1796495
+
+abbrev pub STEPS : ℕ
+STEPS = 15
+
+-- what the constants stand for, and that the authalic radius of the unit sphere is 1
+pub constants :
+    (A1 ∷ A2 ∷ A3 ∷ A4 ∷ c7 ∷ c9 ∷ M ∷ MAX-Y ∷ TOLERANCE ∷ one ∷ [])
+    ≡ (ratio 1340264 (10 ^ 6) ∷ neg (ratio 81106 (10 ^ 6)) ∷ ratio 893 (10 ^ 6) ∷ ratio 3796 (10 ^ 6) ∷ ratio 7 1 ∷ ratio 9 1 ∷ root three ⊘ two ∷ ratio 13173627591574 (10 ^ 13) ∷ ratio 1 (10 ^ 11) ∷ root (half ⊗ two) ∷ [])
+unfolding ofBits round neg mul div root
+constants = refl
+
+-- dy/dψ on the unit sphere, by ψ² and ψ⁶
+unfoldable pub y-derivative : Float → Float → Float
+y-derivative psi2 psi6 = A1 ⊕ three ⊗ A2 ⊗ psi2 ⊕ psi6 ⊗ (c7 ⊗ A3 ⊕ c9 ⊗ A4 ⊗ psi2)
+
+-- y/ψ on the unit sphere, by ψ² and ψ⁶
+unfoldable pub y-over-psi : Float → Float → Float
+y-over-psi psi2 psi6 = A1 ⊕ A2 ⊗ psi2 ⊕ psi6 ⊗ (A3 ⊕ A4 ⊗ psi2)
+
+-- ---- the constructor
+
+-- the authalic q of the pole (Snyder 3-12), 2 on a sphere
+unfoldable pub polar-q : Float → Float
+polar-q e2 = cond (e2 ≈ +0) two (authalic-q FRAC-PI-2 e2)
+
+-- rqda is the authalic radius over a, root (qp / 2) (Snyder 3-13). The source's 1 on a sphere is that too.
+unfoldable pub new : Ellipsoid → Float → Float → Float → BuiltEqualEarth
+new ellipsoid lon0 fe fn =
+    let qp = polar-q (e2 ellipsoid) in
+    guard (or-else (validate-angle lon0) (or-else (validate-offset fe FALSE-EASTING) (validate-offset fn FALSE-NORTHING))) built.Refused
+    (built.Built (record { a = ellipsoid .a; e2 = e2 ellipsoid; lon0 = lon0; «false_easting» = fe; «false_northing» = fn; qp = qp; rqda = root (half ⊗ qp) }))
+
+-- ---- forward
+
+-- the sine of the authalic latitude β, q / qp (Snyder 3-11), which rounding may bring past 1
+unfoldable pub sin-beta : EqualEarth → Float → Float
+sin-beta p lat = cond (p .e2 ≈ +0) (sine lat) (clamp (authalic-q lat (p .e2) ⊘ p .qp) (neg one) one)
+
+-- sin ψ = (√3 / 2) sin β
+unfoldable pub psi-of-latitude : EqualEarth → Float → Float
+psi-of-latitude p lat = arcsine (M ⊗ sin-beta p lat)
+
+-- E = FE + Rq λ cos ψ / (√3 / 2 dy/dψ), N = FN + Rq y
+unfoldable pub projected : EqualEarth → Float → Float → Answer
+projected p lam psi =
+    let psi2 = psi ⊗ psi in
+    let psi6 = psi2 ⊗ psi2 ⊗ psi2 in
+    let scale = p .a ⊗ p .rqda in
+    ensure-finite-xy (p .«false_easting» ⊕ scale ⊗ lam ⊗ cosine psi ⊘ (M ⊗ y-derivative psi2 psi6))
+    (p .«false_northing» ⊕ scale ⊗ psi ⊗ y-over-psi psi2 psi6)
+
+unfoldable pub forward : EqualEarth → Float → Float → Answer
+forward p lon lat = guard (validate-lon-lat lon lat) Refused (projected p (normalize-longitude (lon ⊖ p .lon0)) (psi-of-latitude p lat))
+
+-- ---- inverse
+
+-- one round of Newton's method for y(ψ) = ys, from yc
+unfoldable pub newton : Float → Float → Float
+newton ys yc =
+    let y2 = yc ⊗ yc in
+    let y6 = y2 ⊗ y2 ⊗ y2 in
+    yc ⊖ (yc ⊗ y-over-psi y2 y6 ⊖ ys) ⊘ y-derivative y2 y6
+
+unfoldable pub psi-of-northing : Float → Settled
+psi-of-northing ys = converge (newton ys) ys STEPS TOLERANCE
+
+-- λ = λ0 + (√3 / 2) x dy/dψ / cos ψ on the unit sphere: 01's formula's longitude
+unfoldable pub longitude : EqualEarth → Float → Float → Float
+longitude p xs psi =
+    let psi2 = psi ⊗ psi in
+    let psi6 = psi2 ⊗ psi2 ⊗ psi2 in
+    p .lon0 ⊕ M ⊗ xs ⊗ y-derivative psi2 psi6 ⊘ cosine psi
+
+-- sin β = sin ψ / (√3 / 2), which rounding may bring past 1. The series (Snyder 3-18) leaves β as it is on a sphere.
+unfoldable pub latitude : EqualEarth → Float → Float
+latitude p psi = geodetic-from-authalic (arcsine (clamp (sine psi ⊘ M) (neg one) one)) (p .e2)
+
+-- the formula's answer once the rounds have ended
+unfoldable pub place : EqualEarth → Float → Settled → Answer
+place p xs (settled.Found psi) = Pair (longitude p xs psi) (latitude p psi)
+place p xs (settled.Refused n) = Refused n
+
+-- A scaled northing off the map is answered as its edge. The papers have no such rule.
+unfoldable pub formula : EqualEarth → Float → Float → Answer
+formula p x y =
+    let scale = p .a ⊗ p .rqda in
+    let ys = clamp ((y ⊖ p .«false_northing») ⊘ scale) (neg MAX-Y) MAX-Y in
+    guard (validate-projected x y) Refused (place p ((x ⊖ p .«false_easting») ⊘ scale) (psi-of-northing ys))
+
+unfoldable pub inverse : EqualEarth → Float → Float → Answer
+inverse p x y = finish (formula p x y)

@@ -1,0 +1,230 @@
+// Equal Earth (EPSG method 1078): the source's equal_earth.rs.
+ghost use mathlib.Core.Path.{_≡_};
+ghost use Rattle.projection.specs.OnTheMap.{OnTheMap};
+ghost use Rattle.equal_earth.specs.EqualEarth.{y-derivative, y-over-psi, polar-q, new, sin-beta, psi-of-latitude, projected, forward, newton, psi-of-northing, place, formula, inverse};
+use ellipsoid::Ellipsoid;
+use fixed::asin;
+use fixed::cos;
+use fixed::sin;
+use fixed::sin_cos;
+use float::FRAC_PI_2;
+use float::abs;
+use float::clamp;
+use projection::Answer;
+use projection::Settled;
+use projection::authalic_q;
+use projection::ensure_finite_xy;
+use projection::finish;
+use projection::geodetic_from_authalic;
+use projection::normalize_longitude;
+use projection::or_else;
+use projection::refusals::FALSE_EASTING;
+use projection::refusals::FALSE_NORTHING;
+use projection::refusals::STEPS_USED_UP;
+use projection::validate_angle;
+use projection::validate_lon_lat;
+use projection::validate_offset;
+use projection::validate_projected;
+use root::root;
+
+pub struct EqualEarth {
+    pub a: f64,
+    pub e2: f64,
+    pub lon0: f64,
+    pub false_easting: f64,
+    pub false_northing: f64,
+    // The authalic q of the pole.
+    pub qp: f64,
+    // The authalic radius divided by a.
+    pub rqda: f64,
+}
+
+pub enum BuiltEqualEarth {
+    Built(EqualEarth),
+    Refused(u8),
+}
+
+// The polynomial's coefficients.
+const A1: f64 = 1.340264;
+
+const A2: f64 = -0.081106;
+
+const A3: f64 = 0.000893;
+
+const A4: f64 = 0.003796;
+
+// The source's m_const(), the root of 3 over 2, worked out once: specs/EqualEarth.antt has the theorem.
+const M: f64 = f64::from_bits(0x3feb_b67a_e858_4caa);
+
+// dy/dψ of the polynomial on the unit sphere, by the powers of ψ.
+fn y_derivative(psi2: f64, psi6: f64) -> f64
+    ensures { λ r. ⌜ r ≡ y-derivative psi2 psi6 ⌝ }
+{
+    A1 + 3.0 * A2 * psi2 + psi6 * (7.0 * A3 + 9.0 * A4 * psi2)
+}
+
+// y/ψ of the polynomial on the unit sphere.
+fn y_over_psi(psi2: f64, psi6: f64) -> f64
+    ensures { λ r. ⌜ r ≡ y-over-psi psi2 psi6 ⌝ }
+{
+    A1 + A2 * psi2 + psi6 * (A3 + A4 * psi2)
+}
+
+fn polar_q(e2: f64) -> f64
+    ensures { λ r. ⌜ r ≡ polar-q e2 ⌝ }
+{
+    if e2 == 0.0 {
+        2.0
+    } else {
+        authalic_q(FRAC_PI_2, e2)
+    }
+}
+
+impl EqualEarth {
+    // The pole's northing on the unit sphere, to which the inverse clamps.
+    const MAX_Y: f64 = 1.3173627591574;
+
+    // The inverse's rounds, and the difference below which they end.
+    const STEPS: usize = 15;
+
+    const TOLERANCE: f64 = 1e-11;
+
+    pub fn new(
+        ellipsoid: Ellipsoid,
+        lon0: f64,
+        false_easting: f64,
+        false_northing: f64,
+    ) -> BuiltEqualEarth
+        ensures { λ r. ⌜ r ≡ new ellipsoid lon0 «false_easting» «false_northing» ⌝ }
+    {
+        let fault = or_else(
+            validate_angle(lon0),
+            or_else(
+                validate_offset(false_easting, FALSE_EASTING),
+                validate_offset(false_northing, FALSE_NORTHING),
+            ),
+        );
+        if fault == 0 {
+            let e2 = ellipsoid.e2();
+            let qp = polar_q(e2);
+            let built = EqualEarth {
+                a: ellipsoid.a,
+                e2,
+                lon0,
+                false_easting,
+                false_northing,
+                qp,
+                rqda: root(0.5 * qp),
+            };
+            BuiltEqualEarth::Built(built)
+        } else {
+            BuiltEqualEarth::Refused(fault)
+        }
+    }
+
+    // The sine of the authalic latitude β.
+    fn sin_beta(self, lat: f64) -> f64
+        ensures { λ r. ⌜ r ≡ sin-beta self lat ⌝ }
+    {
+        if self.e2 == 0.0 {
+            sin(lat)
+        } else {
+            clamp(authalic_q(lat, self.e2) / self.qp, -1.0, 1.0)
+        }
+    }
+
+    // The parametric latitude ψ of a latitude.
+    fn psi_of_latitude(self, lat: f64) -> f64
+        ensures { λ r. ⌜ r ≡ psi-of-latitude self lat ⌝ }
+    {
+        asin(M * self.sin_beta(lat))
+    }
+
+    // The place on the map of a longitude from the origin and a parametric latitude.
+    fn projected(self, lam: f64, psi: f64) -> Answer
+        ensures { λ r. ⌜ r ≡ projected self lam psi ⌝ }
+    {
+        let psi2 = psi * psi;
+        let psi6 = psi2 * psi2 * psi2;
+        let scale = self.a * self.rqda;
+        let x = self.false_easting + scale * lam * cos(psi) / (M * y_derivative(psi2, psi6));
+        let y = self.false_northing + scale * psi * y_over_psi(psi2, psi6);
+        ensure_finite_xy(x, y)
+    }
+
+    pub fn forward(self, lon: f64, lat: f64) -> Answer
+        ensures { λ r. ⌜ r ≡ forward self lon lat ⌝ }
+    {
+        let fault = validate_lon_lat(lon, lat);
+        if fault == 0 {
+            self.projected(
+                normalize_longitude(lon - self.lon0),
+                self.psi_of_latitude(lat),
+            )
+        } else {
+            Answer::Refused(fault)
+        }
+    }
+
+    // A round of Newton's method for the ψ whose northing on the unit sphere is ys.
+    fn newton(ys: f64, yc: f64) -> f64
+        ensures { λ r. ⌜ r ≡ newton ys yc ⌝ }
+    {
+        let y2 = yc * yc;
+        let y6 = y2 * y2 * y2;
+        let f = yc * y_over_psi(y2, y6) - ys;
+        yc - f / y_derivative(y2, y6)
+    }
+
+    // The parametric latitude ψ of a northing on the unit sphere.
+    fn psi_of_northing(ys: f64) -> Settled
+        ensures { λ r. ⌜ r ≡ psi-of-northing ys ⌝ }
+    {
+        let mut yc = ys;
+        for _ in 0..Self::STEPS {
+            let next = Self::newton(ys, yc);
+            if abs(next - yc) < Self::TOLERANCE {
+                return Settled::Found(next);
+            }
+            yc = next;
+        }
+        Settled::Refused(STEPS_USED_UP)
+    }
+
+    // The place of an easting on the unit sphere and a parametric latitude. Its longitude is not normalised yet.
+    fn place(self, xs: f64, settled: Settled) -> Answer
+        ensures { λ r. ⌜ r ≡ place self xs settled ⌝ }
+    {
+        match settled {
+            Settled::Found(psi) => {
+                let psi2 = psi * psi;
+                let psi6 = psi2 * psi2 * psi2;
+                let sc = sin_cos(psi);
+                let lon = self.lon0 + M * xs * y_derivative(psi2, psi6) / sc.cos;
+                let beta = asin(clamp(sc.sin / M, -1.0, 1.0));
+                Answer::Pair(lon, geodetic_from_authalic(beta, self.e2))
+            }
+            Settled::Refused(n) => Answer::Refused(n),
+        }
+    }
+
+    fn formula(self, x: f64, y: f64) -> Answer
+        ensures { λ r. ⌜ r ≡ formula self x y ⌝ }
+    {
+        let fault = validate_projected(x, y);
+        if fault == 0 {
+            let scale = self.a * self.rqda;
+            let xs = (x - self.false_easting) / scale;
+            let ys = clamp((y - self.false_northing) / scale, -Self::MAX_Y, Self::MAX_Y);
+            self.place(xs, Self::psi_of_northing(ys))
+        } else {
+            Answer::Refused(fault)
+        }
+    }
+
+    pub fn inverse(self, x: f64, y: f64) -> Answer
+        ensures { λ r. ⌜ (r ≡ inverse self x y) × OnTheMap (formula self x y) r ⌝ }
+    {
+        finish(self.formula(x, y))
+    }
+}

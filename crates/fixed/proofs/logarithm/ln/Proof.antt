@@ -1,0 +1,35 @@
+-- The branches are the definition's; -1 / 0 computes to -infinity.
+use borrow.Author.Needs.{needs}
+use lib.Ieee.{div, neg, ofBits}
+use Rattle.fixed.specs.Logarithm.{scaled, mantissa, exponent, ln}
+use Rattle.fixed.proofs.logarithm.ln.Statement.{statement}
+use Rattle.fixed.proofs.logarithm.ln.Tie as tie
+
+subnormal : tie.Need-returns
+unfolding ln scaled mantissa exponent
+subnormal c =
+    let f = c .before .before .before in
+    simp (f .before .before .if1 .taken, ← f .before .is-finite .ensures, f .if2 .taken, c .before .before .if3 .taken) (cc)
+
+normal : tie.Need-returns-2
+unfolding ln scaled mantissa exponent
+normal c =
+    let f = c .before .before .before in
+    simp (f .before .before .if1 .taken, ← f .before .is-finite .ensures, f .if2 .taken, c .before .before .if3 .left) (cc)
+
+infinite : tie.Need-returns-3
+unfolding ln
+infinite c = simp (c .before .before .if1 .taken, ← c .before .is-finite .ensures, c .if2 .left)
+
+of-zero : tie.Need-returns-4
+unfolding ln div neg ofBits
+of-zero c = simp (c .before .if1 .left, c .if4 .taken)
+
+no-number : tie.Need-returns-5
+unfolding ln
+no-number c = simp (c .before .before .if1 .left, c .before .if4 .left) (cc)
+
+pub ln-spec : {M : Type 1} → statement M
+ln-spec =
+    tie.close
+    (tie.spec (λ c κs. tt) (λ c κs. tt) (λ c κs. search needs) subnormal (λ c κs. tt) (λ c κs. search needs) normal infinite (λ c κs. tt) of-zero no-number)

@@ -1,0 +1,105 @@
+-- Lambert Azimuthal Equal Area (Snyder chapter 24; IOGP method 9820, and 1027 for S): its settings, the numbers made of them, and when they are refused.
+use mathlib.Core.Path.{_≡_, refl}
+use mathlib.Core.Bool.{Bool, true, false, cond, _&&_}
+use mathlib.Core.List.{List, [], _∷_}
+use Prim.Native.Nat.{ℕ, _^_}
+use lib.Ieee.{Float, ofBits, round}
+use lib.Ieee.Scale.{finite}
+use Rattle.float.specs.Operators.{_⊕_, _⊖_, _⊗_, _⊘_, _≺_, f64}
+use Rattle.float.specs.Constants.{+0, one, two, FRAC-PI-2, ratio}
+use Rattle.float.specs.Sign.{abs}
+use Rattle.root.specs.Root.{root}
+use Rattle.fixed.specs.Trigonometry.{sine, cosine}
+use Rattle.ellipsoid.specs.Ellipsoid as Ellipsoids
+use Rattle.ellipsoid.specs.declared.Ellipsoid.{Ellipsoid}
+use Rattle.projection.specs.Refusals.{FALSE-EASTING, FALSE-NORTHING, POLAR-Q, ORIGIN-NEAR-POLE, ORIGIN-SCALE}
+use Rattle.projection.specs.Checks.{or-else, guard, validate-angle, validate-latitude-param, validate-offset}
+use Rattle.projection.specs.Authalic.{authalic-q, authalic-latitude}
+use Rattle.lambert_azimuthal_equal_area.specs.declared.Aspect.{Aspect}
+use Rattle.lambert_azimuthal_equal_area.specs.declared.Aspect.the-variants.{Oblique, NorthPolar, SouthPolar}
+use Rattle.lambert_azimuthal_equal_area.specs.declared.LambertAzimuthalEqualArea.{LambertAzimuthalEqualArea}
+use Rattle.lambert_azimuthal_equal_area.specs.declared.BuiltLambertAzimuthalEqualArea.{BuiltLambertAzimuthalEqualArea}
+use Rattle.lambert_azimuthal_equal_area.specs.declared.BuiltLambertAzimuthalEqualArea.the-variants.{Built, Refused}
+
+-- radians, and a cosine
+abbrev pub POLAR-EPSILON : Float
+POLAR-EPSILON = f64 0x3d719799812dea11
+
+-- metres
+abbrev pub RHO-EPSILON : Float
+RHO-EPSILON = f64 0x3e112e0be826d695
+
+pub constants : (POLAR-EPSILON ∷ RHO-EPSILON ∷ []) ≡ (ratio 1 (10 ^ 12) ∷ ratio 1 (10 ^ 9) ∷ [])
+unfolding ofBits round
+constants = refl
+
+-- polar strictly within POLAR-EPSILON of a pole
+unfoldable pub aspect-at : Float → Aspect
+aspect-at lat0 =
+    cond (abs (lat0 ⊖ FRAC-PI-2) ≺ POLAR-EPSILON) NorthPolar
+    (cond (abs (lat0 ⊕ FRAC-PI-2) ≺ POLAR-EPSILON) SouthPolar Oblique)
+
+-- D of Snyder 24-20 with m of 14-15: by D east and 1/D north the map is conformal at its origin. About a pole it is that by itself.
+unfoldable pub scale : Aspect → Float → Float → Float → Float → Float → Float → Float
+scale Oblique a e2 sin-lat0 cos-lat0 rq cos-beta0 = a ⊗ cos-lat0 ⊘ (root (one ⊖ e2 ⊗ sin-lat0 ⊗ sin-lat0) ⊗ rq ⊗ cos-beta0)
+scale NorthPolar a e2 sin-lat0 cos-lat0 rq cos-beta0 = one
+scale SouthPolar a e2 sin-lat0 cos-lat0 rq cos-beta0 = one
+
+-- The settings with the numbers made of them: q at the pole (3-12), the radius Rq of the sphere with the ellipsoid's area (3-13), which is S's radius too,
+-- and the authalic latitude β0 of the origin (3-11).
+unfoldable pub derived : Ellipsoid → Float → Float → Float → Float → Bool → LambertAzimuthalEqualArea
+derived ellipsoid lon0 lat0 false-easting false-northing spherical =
+    let a = ellipsoid .a in
+    let e2 = Ellipsoids.e2 ellipsoid in
+    let q-p = authalic-q FRAC-PI-2 e2 in
+    let rq = a ⊗ root (q-p ⊘ two) in
+    let beta0 = authalic-latitude (authalic-q lat0 e2) q-p in
+    let aspect = aspect-at lat0 in
+    record {
+      a = a;
+      e2 = e2;
+      spherical = spherical;
+      «spherical_radius» = rq;
+      lon0 = lon0;
+      lat0 = lat0;
+      «q_p» = q-p;
+      rq = rq;
+      «sin_lat0» = sine lat0;
+      «cos_lat0» = cosine lat0;
+      «sin_beta0» = sine beta0;
+      «cos_beta0» = cosine beta0;
+      d = scale aspect a e2 (sine lat0) (cosine lat0) rq (cosine beta0);
+      «false_easting» = false-easting;
+      «false_northing» = false-northing;
+      aspect = aspect;
+    }
+
+-- 0 where the value is finite and above 0, else the number
+unfoldable pub validate-positive : Float → ℕ → ℕ
+validate-positive value number = cond (finite value && +0 ≺ value) 0 number
+
+-- an origin that is not polar has β0 off the pole
+unfoldable pub validate-origin : Aspect → Float → ℕ
+validate-origin Oblique cos-beta0 = cond (abs cos-beta0 ≺ POLAR-EPSILON) ORIGIN-NEAR-POLE 0
+validate-origin NorthPolar cos-beta0 = 0
+validate-origin SouthPolar cos-beta0 = 0
+
+-- the first refusal number, or 0: 6, 7 or 8, 9, 10, 12, 13, 14
+unfoldable pub fault : LambertAzimuthalEqualArea → ℕ
+fault p =
+    or-else (validate-angle (p .lon0))
+    (or-else (validate-latitude-param (p .lat0))
+    (or-else (validate-offset (p .«false_easting») FALSE-EASTING)
+    (or-else (validate-offset (p .«false_northing») FALSE-NORTHING)
+    (or-else (validate-positive (p .«q_p») POLAR-Q)
+    (or-else (validate-origin (p .aspect) (p .«cos_beta0»)) (validate-positive (p .d) ORIGIN-SCALE))))))
+
+unfoldable pub checked : LambertAzimuthalEqualArea → BuiltLambertAzimuthalEqualArea
+checked p = guard (fault p) Refused (Built p)
+
+unfoldable pub new : Ellipsoid → Float → Float → Float → Float → BuiltLambertAzimuthalEqualArea
+new ellipsoid lon0 lat0 false-easting false-northing = checked (derived ellipsoid lon0 lat0 false-easting false-northing false)
+
+-- S: on the sphere of radius Rq, about lat0 itself
+unfoldable pub new-spherical : Ellipsoid → Float → Float → Float → Float → BuiltLambertAzimuthalEqualArea
+new-spherical ellipsoid lon0 lat0 false-easting false-northing = checked (derived ellipsoid lon0 lat0 false-easting false-northing true)

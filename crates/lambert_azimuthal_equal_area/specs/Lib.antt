@@ -1,0 +1,3 @@
+pub mod LambertAzimuthalEqualArea
+pub mod Forward
+pub mod Inverse

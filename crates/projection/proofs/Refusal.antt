@@ -1,0 +1,29 @@
+-- A refusal number that is not 0 comes before all that follows it.
+use Prim.Native.Nat.{ℕ, zero, suc}
+use mathlib.Core.Path.{_≡_, refl, sym, ap, _∙_}
+use Rattle.projection.specs.Checks.{or-else, guard}
+
+pub or-else-refused : (n m : ℕ) → (n ≡ 0 → ⊥) → or-else n m ≡ n
+unfolding or-else
+or-else-refused zero m h = absurd (h refl)
+or-else-refused (suc n) m h = refl
+
+pub or-else-passed : (n m : ℕ) → n ≡ 0 → or-else n m ≡ m
+unfolding or-else
+or-else-passed n m e = rw e
+
+pub guard-refused : {A : Type 0} (n : ℕ) (refuse : ℕ → A) (a : A) → (n ≡ 0 → ⊥) → guard n refuse a ≡ refuse n
+unfolding guard
+guard-refused zero refuse a h = absurd (h refl)
+guard-refused (suc n) refuse a h = refl
+
+pub guard-passed : {A : Type 0} (n : ℕ) (refuse : ℕ → A) (a : A) → n ≡ 0 → guard n refuse a ≡ a
+unfolding guard
+guard-passed n refuse a e = rw e
+
+-- The two answers of a function that has worked out its first fault m: what it goes on to where m is 0, and the refusal.
+pub passes : {A : Type 0} {m : ℕ} {b : A} (n : ℕ) (refuse : ℕ → A) (a : A) → m ≡ 0 → m ≡ n → b ≡ a → b ≡ guard n refuse a
+passes n refuse a z e f = f ∙ sym (guard-passed n refuse a (sym e ∙ z))
+
+pub refuses : {A : Type 0} {m : ℕ} (n : ℕ) (refuse : ℕ → A) (a : A) → (m ≡ 0 → ⊥) → m ≡ n → refuse m ≡ guard n refuse a
+refuses n refuse a h e = ap refuse e ∙ sym (guard-refused n refuse a (λ z. h (e ∙ z)))

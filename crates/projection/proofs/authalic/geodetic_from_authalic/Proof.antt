@@ -1,0 +1,11 @@
+-- The test is the definition's, and so is each branch.
+use Rattle.projection.specs.Authalic.{geodetic-from-authalic}
+use borrow.Author.Needs.{needs}
+use Rattle.projection.proofs.authalic.geodetic_from_authalic.Statement.{statement}
+use Rattle.projection.proofs.authalic.geodetic_from_authalic.Tie as tie
+
+pub geodetic-from-authalic-spec : {M : Type 1} → statement M
+unfolding geodetic-from-authalic
+geodetic-from-authalic-spec =
+    tie.close
+    (tie.spec (λ c κs. search needs) (λ c κs. search needs) (λ c. simp (← c .before .is-spherical .ensures, c .if1 .taken)) (λ c. simp (← c .authalic-series .ensures, ← c .before .before .is-spherical .ensures, c .before .if1 .left)))

@@ -1,0 +1,35 @@
+-- The checks: each gives document 01's refusal number, or 0 where it passes. Beyond the bound means strictly above it.
+use mathlib.Core.Bool.{Bool, cond, _&&_}
+use Prim.Native.Nat.{ℕ, zero, suc}
+use lib.Ieee.{Float}
+use lib.Ieee.Scale.{finite}
+use Rattle.float.specs.Operators.{_≺_}
+use Rattle.float.specs.Constants.{LAT-BOUND}
+use Rattle.float.specs.Sign.{abs}
+use Rattle.projection.specs.Refusals.{LON0, LATITUDE-SETTING, LATITUDE-SETTING-BEYOND, PLACE, PLACE-BEYOND, PROJECTED}
+
+-- the first refusal of two
+unfoldable pub or-else : ℕ → ℕ → ℕ
+or-else zero second = second
+or-else (suc first) second = suc first
+
+-- a refusal, or else what follows it, for any kind of answer
+unfoldable pub guard : {A : Type 0} → ℕ → (ℕ → A) → A → A
+guard zero refuse a = a
+guard (suc n) refuse a = refuse (suc n)
+
+unfoldable pub validate-angle : Float → ℕ
+validate-angle value = cond (finite value) 0 LON0
+
+unfoldable pub validate-latitude-param : Float → ℕ
+validate-latitude-param value = cond (finite value) (cond (LAT-BOUND ≺ abs value) LATITUDE-SETTING-BEYOND 0) LATITUDE-SETTING
+
+-- the number says which offset it is
+unfoldable pub validate-offset : Float → ℕ → ℕ
+validate-offset value number = cond (finite value) 0 number
+
+unfoldable pub validate-lon-lat : Float → Float → ℕ
+validate-lon-lat lon lat = cond (finite lon && finite lat) (cond (LAT-BOUND ≺ abs lat) PLACE-BEYOND 0) PLACE
+
+unfoldable pub validate-projected : Float → Float → ℕ
+validate-projected x y = cond (finite x && finite y) 0 PROJECTED

@@ -1,0 +1,9 @@
+pub mod Refusals
+pub mod Answer
+pub mod Checks
+pub mod Longitude
+pub mod Ends
+pub mod OnTheMap
+pub mod Iteration
+pub mod Authalic
+pub mod Meridian

@@ -1,0 +1,27 @@
+-- Document 01's demand 3: whatever an inverse answers lies on the map. Sizes and distances are exact, in whole units of 2^-1074.
+use mathlib.Core.Path.{_≡_}
+use Prim.Native.Nat.{_*_, _-_, _^_, _≤_}
+use lib.IntN.{ℤ, natAbs, _+ℤ_, _-ℤ_, _*ℤ_}
+use lib.Dec.{T}
+use lib.Ieee.{Float}
+use lib.Ieee.Scale.{finite}
+use Rattle.float.specs.Constants.{PI, TURN, LAT-BOUND}
+use Rattle.float.specs.Units.{units}
+use Rattle.projection.specs.Longitude.{normalize-longitude}
+use Rattle.projection.specs.declared.Answer.{Answer}
+use Rattle.projection.specs.declared.Answer.the-variants.{Pair}
+
+-- a place on the map, raw being 01's formula's longitude
+pub record Place (raw lon lat : Float) : Type 0 where
+  pub lon-finite : T (finite lon)
+  pub lat-finite : T (finite lat)
+  pub lon-bound : natAbs (units lon) ≤ natAbs (units PI)
+  pub lat-bound : natAbs (units lat) ≤ natAbs (units LAT-BOUND)
+  -- normalising again gives the same bits; so it is never -0
+  pub settled : normalize-longitude lon ≡ lon
+  -- k whole turns from raw, within 2^-42
+  pub near : natAbs (units raw) ≤ 1024 * 2 ^ 1074 → (k : ℤ) × (natAbs (units raw +ℤ k *ℤ units TURN -ℤ units lon) ≤ 2 ^ (1074 - 42))
+
+-- what is answered is a place on the map, from the formula's longitude and with its latitude
+pub record OnTheMap (formula answer : Answer) : Type 0 where
+  pub answered : (lon lat : Float) → answer ≡ Pair lon lat → (raw : Float) × (formula ≡ Pair raw lat) × Place raw lon lat
