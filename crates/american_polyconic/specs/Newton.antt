@@ -56,7 +56,7 @@ ellipsoid-step e2 en ys b phi =
 unfoldable pub step : Float → List Float → Float → Float → Float → Step
 step e2 en ys b phi = cond (e2 ≈ +0) (sphere-step ys b phi) (ellipsoid-step e2 en ys b phi)
 
--- from Snyder's first guess, A; the step limit is reached before a pole is looked for
+-- From Snyder's first guess, A. After the last step it is 22, even where the next cosine would give 21.
 unfoldable pub latitude : Float → List Float → Float → Float → Settled
 unfolding step
 latitude e2 en ys b = iterate (step e2 en ys b) NEWTON-ITERATIONS ys
