@@ -3,7 +3,7 @@ ghost use Rattle.root.specs.Nearest.{NearestWhole};
 
 // The whole number nearest to the root of n * 2^52, digit by digit: q is the root of the pairs of digits so far, r what
 // its square leaves of them, v the pairs to come.
-pub fn digit_root(n: u64) -> u64
+pub(crate) fn digit_root(n: u64) -> u64
     requires { ⌜ (0 < n) × (n < 2 ^ 54) ⌝ }
     ensures { λ t. ⌜ NearestWhole (n * 2 ^ 52) t ⌝ }
 {

@@ -42,7 +42,7 @@ fn choose(first: bool, a: u64, b: u64) -> u64
 // A guess at the whole number nearest to the root of m * 2^p * 2^52, wrong about once in two hundred: s is the root to
 // 32 digits, taken a little low, and one step of Newton's adds the other 21, with z the reciprocal of the root. Nothing
 // that is proved rests on its quality. 3037000500 is 2^32 / root(2); 0x21_0000_0000 rounds, and makes up for the step.
-pub fn guess(m: u64, p: u64) -> u64
+pub(crate) fn guess(m: u64, p: u64) -> u64
     requires { ⌜ (2 ^ 52 ≤ m) × (m < 2 ^ 53) × (p < 2) ⌝ }
     ensures { λ q. ⌜ q < 2 ^ 54 ⌝ }
 {

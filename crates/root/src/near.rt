@@ -28,7 +28,7 @@ fn is_near(n: u64, q: u64) -> bool
 }
 
 // The whole number nearest to the root of m * 2^p * 2^52: the guess, where it is seen to be right.
-pub fn near_root(m: u64, p: u64) -> u64
+pub(crate) fn near_root(m: u64, p: u64) -> u64
     requires { ⌜ (2 ^ 52 ≤ m) × (m < 2 ^ 53) × (p < 2) ⌝ }
     ensures { λ t. ⌜ NearestWhole (m * 2 ^ p * 2 ^ 52) t ⌝ }
 {
