@@ -1,0 +1,16 @@
+//! What the Rattle code is held against: document 01's fixed functions in Rust, written from 01
+//! alone, the source's own files with those functions and with the platform's, and what to try them
+//! on. No crate of a registry.
+
+pub mod cases;
+pub mod fixed;
+pub mod functions;
+pub mod line;
+pub mod lines;
+pub mod methods;
+pub mod offices;
+pub mod ours;
+pub mod patterns;
+pub mod sheet;
+pub mod source;
+pub mod whole;

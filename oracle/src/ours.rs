@@ -1,0 +1,156 @@
+//! The Rattle functions, by the static library of crates/probe.
+
+use crate::line::{Answer, Line};
+
+#[link(name = "probe", kind = "static")]
+unsafe extern "C" {
+    #[link_name = "probe_identity"]
+    pub safe fn identity(x: f64) -> f64;
+    #[link_name = "probe_root"]
+    pub safe fn root(x: f64) -> f64;
+    #[link_name = "probe_sin"]
+    pub safe fn sin(x: f64) -> f64;
+    #[link_name = "probe_cos"]
+    pub safe fn cos(x: f64) -> f64;
+    #[link_name = "probe_tan"]
+    pub safe fn tan(x: f64) -> f64;
+    #[link_name = "probe_atan"]
+    pub safe fn atan(x: f64) -> f64;
+    #[link_name = "probe_asin"]
+    pub safe fn asin(x: f64) -> f64;
+    #[link_name = "probe_atan2"]
+    pub safe fn atan2(y: f64, x: f64) -> f64;
+    #[link_name = "probe_ln"]
+    pub safe fn ln(x: f64) -> f64;
+    #[link_name = "probe_powf_3_2"]
+    pub safe fn powf_3_2(d: f64) -> f64;
+    #[link_name = "probe_rem_euclid"]
+    pub safe fn rem_euclid(x: f64) -> f64;
+    #[link_name = "probe_abs"]
+    pub safe fn abs(x: f64) -> f64;
+    #[link_name = "probe_signum"]
+    pub safe fn signum(x: f64) -> f64;
+    #[link_name = "probe_clamp"]
+    pub safe fn clamp(x: f64, low: f64, high: f64) -> f64;
+    #[link_name = "probe_max_zero"]
+    pub safe fn max_zero(x: f64) -> f64;
+    #[link_name = "probe_is_finite"]
+    pub safe fn is_finite(x: f64) -> bool;
+    #[link_name = "probe_is_negative"]
+    pub safe fn is_negative(x: f64) -> bool;
+    #[link_name = "probe_is_nan"]
+    pub safe fn is_nan(x: f64) -> bool;
+    #[link_name = "probe_f64_of"]
+    pub safe fn f64_of(bits: u64) -> f64;
+    #[link_name = "probe_bits_of"]
+    pub safe fn bits_of(x: f64) -> u64;
+    #[link_name = "probe_from_a_rf"]
+    pub safe fn from_a_rf(a: f64, rf: f64) -> u8;
+    #[link_name = "probe_from_a_f"]
+    pub safe fn from_a_f(a: f64, f: f64) -> u8;
+    #[link_name = "probe_inverse_flattening"]
+    pub safe fn inverse_flattening(a: f64, f: f64) -> f64;
+    #[link_name = "probe_b"]
+    pub safe fn b(a: f64, f: f64) -> f64;
+    #[link_name = "probe_e2"]
+    pub safe fn e2(a: f64, f: f64) -> f64;
+    #[link_name = "probe_e"]
+    pub safe fn e(a: f64, f: f64) -> f64;
+    #[link_name = "probe_n"]
+    pub safe fn n(a: f64, f: f64) -> f64;
+    #[link_name = "probe_ep2"]
+    pub safe fn ep2(a: f64, f: f64) -> f64;
+    #[link_name = "probe_n_radius"]
+    pub safe fn n_radius(a: f64, f: f64, phi: f64) -> f64;
+    #[link_name = "probe_m_radius"]
+    pub safe fn m_radius(a: f64, f: f64, phi: f64) -> f64;
+    #[link_name = "probe_deg_to_rad"]
+    pub safe fn deg_to_rad(deg: f64) -> f64;
+    #[link_name = "probe_rad_to_deg"]
+    pub safe fn rad_to_deg(rad: f64) -> f64;
+    #[link_name = "probe_validate_angle"]
+    pub safe fn validate_angle(value: f64) -> u8;
+    #[link_name = "probe_validate_latitude_param"]
+    pub safe fn validate_latitude_param(value: f64) -> u8;
+    #[link_name = "probe_validate_offset"]
+    pub safe fn validate_offset(value: f64) -> u8;
+    #[link_name = "probe_validate_lon_lat"]
+    pub safe fn validate_lon_lat(lon: f64, lat: f64) -> u8;
+    #[link_name = "probe_validate_projected"]
+    pub safe fn validate_projected(x: f64, y: f64) -> u8;
+    #[link_name = "probe_ensure_finite_xy"]
+    pub safe fn ensure_finite_xy(x: f64, y: f64) -> u8;
+    #[link_name = "probe_ensure_finite_lon_lat"]
+    pub safe fn ensure_finite_lon_lat(lon: f64, lat: f64) -> u8;
+    #[link_name = "probe_normalize_longitude"]
+    pub safe fn normalize_longitude(lon: f64) -> f64;
+    #[link_name = "probe_authalic_q"]
+    pub safe fn authalic_q(lat: f64, e2: f64) -> f64;
+    #[link_name = "probe_authalic_latitude"]
+    pub safe fn authalic_latitude(q: f64, q_p: f64) -> f64;
+    #[link_name = "probe_geodetic_from_authalic"]
+    pub safe fn geodetic_from_authalic(beta: f64, e2: f64) -> f64;
+    #[link_name = "probe_meridian_arc_coefficient"]
+    pub safe fn meridian_arc_coefficient(es: f64, i: usize) -> f64;
+    #[link_name = "probe_meridian_arc"]
+    pub safe fn meridian_arc(phi: f64, sin_phi: f64, cos_phi: f64, es: f64) -> f64;
+    #[link_name = "probe_inverse_meridian_arc"]
+    pub safe fn inverse_meridian_arc(ml: f64, es: f64) -> f64;
+    safe fn probe_project(
+        way: u8,
+        kind: u8,
+        a: f64,
+        f: f64,
+        lon0: f64,
+        lat0: f64,
+        lat1: f64,
+        lat2: f64,
+        false_easting: f64,
+        false_northing: f64,
+        u: f64,
+        v: f64,
+        p: &mut f64,
+        q: &mut f64,
+    ) -> u8;
+    fn probe_column(
+        way: u8,
+        kind: u8,
+        a: f64,
+        f: f64,
+        lon0: f64,
+        lat0: f64,
+        lat1: f64,
+        lat2: f64,
+        false_easting: f64,
+        false_northing: f64,
+        u: *const f64,
+        us: usize,
+        v: *const f64,
+        vs: usize,
+    ) -> f64;
+}
+
+/// The answer to a line.
+pub fn answer(line: &Line) -> Answer {
+    let [a, f, lon0, lat0, lat1, lat2, fe, fn_, u, v] = line.fields;
+    let (way, kind) = (line.way, line.kind);
+    let (mut p, mut q) = (f64::NAN, f64::NAN);
+    let number = probe_project(
+        way, kind, a, f, lon0, lat0, lat1, lat2, fe, fn_, u, v, &mut p, &mut q,
+    );
+    let (p, q) = (p.to_bits(), q.to_bits());
+    Answer { number, p, q }
+}
+
+/// The sum of all results of a column of points, by one projection.
+pub fn column(line: &Line, u: &[f64], v: &[f64]) -> f64 {
+    let [a, f, lon0, lat0, lat1, lat2, fe, fn_, ..] = line.fields;
+    let (way, kind, us, vs) = (line.way, line.kind, u.len(), v.len());
+    let (u, v) = (u.as_ptr(), v.as_ptr());
+    // SAFETY: it reads the two slices, and these alone.
+    unsafe {
+        probe_column(
+            way, kind, a, f, lon0, lat0, lat1, lat2, fe, fn_, u, us, v, vs,
+        )
+    }
+}
