@@ -23,7 +23,7 @@ use Rattle.fixed.specs.Turns.{rem-euclid}
 use Rattle.projection.specs.Longitude.{normalize-longitude, eastern}
 use Rattle.projection.specs.Refusals.{INVERSE-RESULT, INVERSE-BEYOND}
 use Rattle.projection.specs.Ends.{ensure-finite-lon-lat}
-use Rattle.projection.specs.OnTheMap.{Place, OnTheMap}
+use Rattle.projection.specs.OnTheMap.{WITHIN, FAR, Place, OnTheMap}
 use Rattle.projection.specs.declared.Answer.the-variants.{Pair, Refused}
 use Rattle.projection.proofs.Normalising.{Circle, turn-pos}
 use Rattle.projection.proofs.Normalised.{Run, run, good, good-le, idempotent}
@@ -52,9 +52,9 @@ circle = record {
 }
 
 -- 1024 and pi, a turn, and pi are small enough for the errors that are asked for
-small-sum : (M : ℕ) → M ≤ 1024 * 2 ^ 1074 → M + P < 2 ^ (53 + 1032)
+small-sum : (M : ℕ) → M ≤ FAR → M + P < 2 ^ (53 + 1032)
 unfolding P unit-count ofBits
-small-sum M h = lt-of-le-of-lt (grow M (1024 * 2 ^ 1074) P h) (lit< tt)
+small-sum M h = lt-of-le-of-lt (grow M FAR P h) (lit< tt)
   where
     grow : (a b c : ℕ) → a ≤ b → a + c ≤ b + c
     grow a b c h = omega arith
@@ -67,11 +67,11 @@ small-pi : P < 2 ^ (53 + 1023)
 unfolding P unit-count ofBits
 small-pi = lit< tt
 
-near-of : {s : Bool} {M : ℕ} {x r : Float} → Finite binary64 x s M → Run binary64 P s M r → natAbs (units x) ≤ 1024 * 2 ^ 1074
-    → (k : ℤ) × (natAbs (units x +ℤ k *ℤ units TURN -ℤ units r) ≤ 2 ^ (1074 - 42))
+near-of : {s : Bool} {M : ℕ} {x r : Float} → Finite binary64 x s M → Run binary64 P s M r → natAbs (units x) ≤ FAR
+    → (k : ℤ) × (natAbs (units x +ℤ k *ℤ units TURN -ℤ units r) ≤ WITHIN)
 near-of {s} {M} {x} h w b =
-    let M-le : M ≤ 1024 * 2 ^ 1074 = rw (abs-units x, units-count (h .units)) at b in
-    let c = close w (2 ^ (1074 - 42)) 1032 1024 1023 (turn-pos circle) (small-sum M M-le) small-turn small-pi (lit≤ tt) in
+    let M-le : M ≤ FAR = rw (abs-units x, units-count (h .units)) at b in
+    let c = close w WITHIN 1032 1024 1023 (turn-pos circle) (small-sum M M-le) small-turn small-pi (lit≤ tt) in
     let turns = difference-mul (2 * P) (difference-of (c .u) (c .v)) in
     rw (units-signed (circle .turn-is .units)) (
       subℕ (c .u) (c .v),

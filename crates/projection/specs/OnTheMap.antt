@@ -1,6 +1,6 @@
 -- Document 01's demand 3: whatever an inverse answers lies on the map. Sizes and distances are exact, in whole units of 2^-1074.
 use mathlib.Core.Path.{_≡_}
-use Prim.Native.Nat.{_*_, _-_, _^_, _≤_}
+use Prim.Native.Nat.{ℕ, _*_, _-_, _^_, _≤_}
 use lib.IntN.{ℤ, natAbs, _+ℤ_, _-ℤ_, _*ℤ_}
 use lib.Dec.{T}
 use lib.Ieee.{Float}
@@ -11,6 +11,13 @@ use Rattle.projection.specs.Longitude.{normalize-longitude}
 use Rattle.projection.specs.declared.Answer.{Answer}
 use Rattle.projection.specs.declared.Answer.the-variants.{Pair}
 
+-- 2^-42 and 1,024, in units
+abbrev pub WITHIN : ℕ
+WITHIN = 2 ^ (1074 - 42)
+
+abbrev pub FAR : ℕ
+FAR = 1024 * 2 ^ 1074
+
 -- a place on the map, raw being 01's formula's longitude
 pub record Place (raw lon lat : Float) : Type 0 where
   pub lon-finite : T (finite lon)
@@ -19,8 +26,8 @@ pub record Place (raw lon lat : Float) : Type 0 where
   pub lat-bound : natAbs (units lat) ≤ natAbs (units LAT-BOUND)
   -- normalising again gives the same bits; so it is never -0
   pub settled : normalize-longitude lon ≡ lon
-  -- k whole turns from raw, within 2^-42
-  pub near : natAbs (units raw) ≤ 1024 * 2 ^ 1074 → (k : ℤ) × (natAbs (units raw +ℤ k *ℤ units TURN -ℤ units lon) ≤ 2 ^ (1074 - 42))
+  -- where raw is at most 1,024 in size, lon is within 2^-42 of it and k whole turns
+  pub near : natAbs (units raw) ≤ FAR → (k : ℤ) × (natAbs (units raw +ℤ k *ℤ units TURN -ℤ units lon) ≤ WITHIN)
 
 -- what is answered is a place on the map, from the formula's longitude and with its latitude
 pub record OnTheMap (formula answer : Answer) : Type 0 where
