@@ -1,0 +1,6 @@
+mod Digits
+mod Forms
+mod Lines
+mod Parts
+pub mod RoundTrip
+pub mod Stores

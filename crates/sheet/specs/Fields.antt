@@ -1,0 +1,30 @@
+-- The fields of a line: the parts between its commas, always at least one.
+use Prim.Native.Nat.{ℕ}
+use mathlib.Core.List.{List, [], _∷_}
+use mathlib.Core.Bool.{cond}
+use lib.Dec.{eqb}
+use lib.ListN.{getD}
+
+-- what stands before the first c
+unfoldable pub before : ℕ → List ℕ → List ℕ
+before c [] = []
+before c (x ∷ l) = cond (eqb x c) [] (x ∷ before c l)
+
+-- what stands after the first c
+unfoldable pub after : ℕ → List ℕ → List ℕ
+after c [] = []
+after c (x ∷ l) = cond (eqb x c) l (after c l)
+
+-- one byte more at the front of the first part
+abbrev pub joined : ℕ → List (List ℕ) → List (List ℕ)
+joined x [] = (x ∷ []) ∷ []
+joined x (p ∷ ps) = (x ∷ p) ∷ ps
+
+-- 44 is the comma
+unfoldable pub fields : List ℕ → List (List ℕ)
+fields [] = [] ∷ []
+fields (x ∷ l) = cond (eqb x 44) ([] ∷ fields l) (joined x (fields l))
+
+-- field i, counted from 0; [] where the line has no such field
+unfoldable pub field : List ℕ → ℕ → List ℕ
+field l i = getD (fields l) i []

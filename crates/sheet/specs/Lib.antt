@@ -1,0 +1,8 @@
+pub mod Ascii
+pub mod Hex
+pub mod Fields
+pub mod ValueLine
+pub mod Written
+pub mod AnswerLine
+pub mod SheetText
+pub mod Example

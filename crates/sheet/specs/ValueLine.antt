@@ -1,0 +1,88 @@
+-- A value line: its form, and what its fields say.
+use Prim.Native.Nat.{ℕ}
+use mathlib.Core.List.{List, [], _∷_}
+use mathlib.Core.Bool.{Bool, true, false, cond, _&&_, _||_}
+use lib.ListN.{length, drop, getD}
+use lib.Dec.{eqb}
+use lib.Ieee.{Float, ofBits, binary64}
+use Rattle.kinds.specs.declared.Method.{Method}
+use Rattle.kinds.specs.declared.Method.the-variants.{L, S, A, E, C, P, G}
+use Rattle.kinds.specs.declared.Way.{Way}
+use Rattle.kinds.specs.declared.Way.the-variants.{Forward, Inverse}
+use Rattle.sheet.specs.Ascii.{ascii}
+use Rattle.sheet.specs.Hex.{read-hex}
+use Rattle.sheet.specs.Fields.{fields, field}
+use Rattle.sheet.specs.declared.hex.Hex.{Hex}
+use Rattle.sheet.specs.declared.hex.Hex.the-variants as hex
+use Rattle.sheet.specs.declared.value_line.Values.{Values}
+use Rattle.sheet.specs.declared.value_line.ValueLine.{ValueLine}
+use Rattle.sheet.specs.declared.value_line.ValueLine.the-variants as line
+
+-- the byte of a field of one byte; 0 for any other field
+unfoldable pub letter : List ℕ → ℕ
+letter f = cond (eqb (length f) 1) (getD f 0 0) 0
+
+unfoldable pub one-of : List ℕ → ℕ → Bool
+one-of [] b = false
+one-of (k ∷ ks) b = eqb b k || one-of ks b
+
+unfoldable pub is-way : ℕ → Bool
+is-way b = one-of (ascii "FI") b
+
+unfoldable pub is-kind : ℕ → Bool
+is-kind b = one-of (ascii "ACEGLPS") b
+
+-- F forward, I inverse
+unfoldable pub way : ℕ → Way
+way b = cond (eqb b 70) Forward Inverse
+
+-- the kind by its letter, G where it is none of the others
+unfoldable pub method : ℕ → Method
+method b = cond (eqb b 76) L (cond (eqb b 83) S (cond (eqb b 65) A (cond (eqb b 69) E (cond (eqb b 67) C (cond (eqb b 80) P G)))))
+
+abbrev pub is-bits : Hex → Bool
+is-bits (hex.Bits n) = true
+is-bits hex.Malformed = false
+
+abbrev pub bits-or-0 : Hex → ℕ
+bits-or-0 (hex.Bits n) = n
+bits-or-0 hex.Malformed = 0
+
+unfoldable pub is-number : List ℕ → Bool
+is-number f = is-bits (read-hex f)
+
+-- the f64 of a field; +0 where it is no number
+unfoldable pub number : List ℕ → Float
+number f = ofBits binary64 (bits-or-0 (read-hex f))
+
+unfoldable pub all-numbers : List (List ℕ) → Bool
+all-numbers [] = true
+all-numbers (f ∷ fs) = is-number f && all-numbers fs
+
+-- twelve fields: a way's letter, a kind's letter, ten numbers
+unfoldable pub has-form : List ℕ → Bool
+has-form l = eqb (length (fields l)) 12 && (is-way (letter (field l 0)) && (is-kind (letter (field l 1)) && all-numbers (drop 2 (fields l))))
+
+-- the fields in the names line's order: way,kind,a,f,lon0,lat0,lat1,lat2,fe,fn,u,v
+unfoldable pub read-values : List ℕ → Values
+read-values l =
+    record {
+      way = way (letter (field l 0));
+      method = method (letter (field l 1));
+      a = number (field l 2);
+      f = number (field l 3);
+      settings =
+          record {
+            lon0 = number (field l 4);
+            lat0 = number (field l 5);
+            lat1 = number (field l 6);
+            lat2 = number (field l 7);
+            «false_easting» = number (field l 8);
+            «false_northing» = number (field l 9);
+          };
+      u = number (field l 10);
+      v = number (field l 11);
+    }
+
+unfoldable pub read-line : List ℕ → ValueLine
+read-line l = cond (has-form l) (line.Values (read-values l)) line.Malformed

@@ -1,0 +1,75 @@
+// A whole sheet: its lines, and the text that answers it.
+ghost use mathlib.Core.Path.{_≡_};
+ghost use Prim.Native.Nat.{_+_, _-_, _*_, _≤_};
+ghost use lib.ListN.{length, drop};
+ghost use Rattle.sheet.specs.SheetText.{answer, lines, body, sheet-text};
+ghost use Rattle.sheet.specs.Written.{Written};
+use crate::answer_line::put_answer;
+use crate::fields::end_of;
+use crate::value_line::ValueLine;
+use crate::value_line::read_line;
+use kinds::project;
+use projection::Answer;
+
+// Document 01's refusals of a sheet as such: it is over the limit, or a line has another form.
+const OVER_LIMIT: u8 = 1;
+
+const LINE_FORM: u8 = 2;
+
+// The most bytes that a sheet may have.
+const LIMIT: usize = 65536;
+
+// The longest text that answers a sheet: to the names line and 65,493 empty lines.
+pub const ROOM: usize = 2357757;
+
+// The answer to a value line.
+pub fn answer(line: &[u8]) -> Answer
+    ensures { λ r. ⌜ r ≡ answer (now (line .entry)) ⌝ }
+{
+    match read_line(line) {
+        ValueLine::Values(q) => {
+            let way = q.way;
+            let method = q.method;
+            project(way, method, q.a, q.f, q.settings, q.u, q.v)
+        }
+        ValueLine::Malformed => Answer::Refused(LINE_FORM),
+    }
+}
+
+// Answers the lines from a place of the input on: 36 bytes of room for each byte are always enough.
+fn put_body(input: &[u8], from: usize, out: &mut [u8], at: usize) -> usize
+    requires { ⌜ at + 36 * (length (now input) - from) ≤ length (now out) ⌝ }
+    ensures { λ r. ⌜ Written (now (out .entry)) at (body (lines (drop from (now (input .entry))))) r (now (out .exit)) ⌝ }
+{
+    let mut i = from;
+    let mut w = at;
+    while i < input.len() {
+        let e = end_of(input, i, b'\n');
+        w = put_answer(out, w, answer(&input[i..e]));
+        i = e + 1;
+    }
+    w
+}
+
+fn put_sheet(input: &[u8], out: &mut [u8]) -> usize
+    requires { ⌜ 2357757 ≤ length (now out) ⌝ }
+    ensures { λ r. ⌜ Written (now (out .entry)) 0 (sheet-text (now (input .entry))) r (now (out .exit)) ⌝ }
+{
+    if LIMIT < input.len() {
+        return put_answer(out, 0, Answer::Refused(OVER_LIMIT));
+    }
+    let e = end_of(input, 0, b'\n');
+    if check::same(&input[..e], b"way,kind,a,f,lon0,lat0,lat1,lat2,fe,fn,u,v") {
+        let w = bytes::copy(b"code,p,q\n", out);
+        put_body(input, e + 1, out, w)
+    } else {
+        put_answer(out, 0, Answer::Refused(LINE_FORM))
+    }
+}
+
+// Writes the text that answers a sheet and gives its length. Every other byte stays. The room is always enough.
+pub fn answer_sheet(input: &[u8], out: &mut [u8; ROOM]) -> usize
+    ensures { λ r. ⌜ Written (now (out .entry)) 0 (sheet-text (now (input .entry))) r (now (out .exit)) ⌝ }
+{
+    put_sheet(input, out)
+}
