@@ -1,4 +1,4 @@
-//! Names where `rt staticlib` writes the archive that `src/ours.rs` links, and makes of the source's
+//! Names where `rt staticlib` writes the archives that `src/ours.rs` links, and makes of the source's
 //! own files, in docs/src, two trees of modules that `src/source.rs` includes:
 //!
 //! - `platform.rs` has them as they are but for the cuts, `crate::` leading to the tree;
@@ -22,7 +22,9 @@ const HERE: &str = env!("CARGO_MANIFEST_DIR");
 fn main() {
     let archives = format!("{HERE}/../target/staticlib");
     println!("cargo::rustc-link-search=native={archives}");
-    println!("cargo::rerun-if-changed={archives}/libprobe.a");
+    for archive in ["libprobe.a", "libcapi.a"] {
+        println!("cargo::rerun-if-changed={archives}/{archive}");
+    }
     let source = format!("{HERE}/../docs/src/proj-core/src");
     println!("cargo::rerun-if-changed={source}");
     println!("cargo::rerun-if-changed=build.rs");

@@ -81,3 +81,28 @@ impl Answer {
         format!("{},{:016x},{:016x}", self.number, self.p, self.q)
     }
 }
+
+/// What a column of points is projected to.
+#[derive(Clone, Debug)]
+pub struct Columns {
+    pub p: Vec<f64>,
+    pub q: Vec<f64>,
+    pub numbers: Vec<u8>,
+}
+
+impl Columns {
+    /// With room for so many points.
+    pub fn new(points: usize) -> Columns {
+        let (p, q) = (vec![f64::NAN; points], vec![f64::NAN; points]);
+        let numbers = vec![u8::MAX; points];
+        Columns { p, q, numbers }
+    }
+
+    pub fn answers(&self) -> impl Iterator<Item = Answer> {
+        let results = self.p.iter().zip(&self.q);
+        results.zip(&self.numbers).map(|((&p, &q), &number)| {
+            let (p, q) = (bits_of(p), bits_of(q));
+            Answer { number, p, q }
+        })
+    }
+}

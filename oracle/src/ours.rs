@@ -1,6 +1,6 @@
-//! The Rattle functions, by the static library of crates/probe.
+//! The Rattle functions, by the static libraries of crates/probe and, as users have them, crates/capi.
 
-use crate::line::{Answer, Line};
+use crate::line::{Answer, Columns, Line};
 
 #[link(name = "probe", kind = "static")]
 unsafe extern "C" {
@@ -96,7 +96,11 @@ unsafe extern "C" {
     pub safe fn meridian_arc(phi: f64, sin_phi: f64, cos_phi: f64, es: f64) -> f64;
     #[link_name = "probe_inverse_meridian_arc"]
     pub safe fn inverse_meridian_arc(ml: f64, es: f64) -> f64;
-    safe fn probe_project(
+}
+
+#[link(name = "capi", kind = "static")]
+unsafe extern "C" {
+    safe fn lenthuc_project(
         way: u8,
         kind: u8,
         a: f64,
@@ -112,7 +116,7 @@ unsafe extern "C" {
         p: &mut f64,
         q: &mut f64,
     ) -> u8;
-    fn probe_column(
+    fn lenthuc_column(
         way: u8,
         kind: u8,
         a: f64,
@@ -127,7 +131,13 @@ unsafe extern "C" {
         us: usize,
         v: *const f64,
         vs: usize,
-    ) -> f64;
+        p: *mut f64,
+        ps: usize,
+        q: *mut f64,
+        qs: usize,
+        numbers: *mut u8,
+        ns: usize,
+    ) -> u8;
 }
 
 /// The answer to a line.
@@ -135,22 +145,27 @@ pub fn answer(line: &Line) -> Answer {
     let [a, f, lon0, lat0, lat1, lat2, fe, fn_, u, v] = line.fields;
     let (way, kind) = (line.way, line.kind);
     let (mut p, mut q) = (f64::NAN, f64::NAN);
-    let number = probe_project(
+    let number = lenthuc_project(
         way, kind, a, f, lon0, lat0, lat1, lat2, fe, fn_, u, v, &mut p, &mut q,
     );
     let (p, q) = (p.to_bits(), q.to_bits());
     Answer { number, p, q }
 }
 
-/// The sum of all results of a column of points, by one projection.
-pub fn column(line: &Line, u: &[f64], v: &[f64]) -> f64 {
+/// A column of points by one projection.
+pub fn column(line: &Line, u: &[f64], v: &[f64], filled: &mut Columns) {
     let [a, f, lon0, lat0, lat1, lat2, fe, fn_, ..] = line.fields;
-    let (way, kind, us, vs) = (line.way, line.kind, u.len(), v.len());
-    let (u, v) = (u.as_ptr(), v.as_ptr());
-    // SAFETY: it reads the two slices, and these alone.
-    unsafe {
-        probe_column(
-            way, kind, a, f, lon0, lat0, lat1, lat2, fe, fn_, u, us, v, vs,
+    let (way, kind) = (line.way, line.kind);
+    let Columns { p, q, numbers } = filled;
+    let (us, vs, ps, qs, ns) = (u.len(), v.len(), p.len(), q.len(), numbers.len());
+    let (u, v, numbers) = (u.as_ptr(), v.as_ptr(), numbers.as_mut_ptr());
+    let (p, q) = (p.as_mut_ptr(), q.as_mut_ptr());
+    // SAFETY: it reads two slices and writes three others, each with its length.
+    let said = unsafe {
+        lenthuc_column(
+            way, kind, a, f, lon0, lat0, lat1, lat2, fe, fn_, u, us, v, vs, p, ps, q, qs, numbers,
+            ns,
         )
-    }
+    };
+    assert_eq!(said, 0, "the columns have one length");
 }

@@ -1,1 +1,2 @@
+mod OneOf
 pub mod Unused

@@ -5,7 +5,7 @@ use Rattle.ellipsoid.specs.Ellipsoid.{from-a-f}
 use Rattle.ellipsoid.specs.declared.Ellipsoid.{Ellipsoid}
 use Rattle.ellipsoid.specs.declared.BuiltEllipsoid.{BuiltEllipsoid}
 use Rattle.ellipsoid.specs.declared.BuiltEllipsoid.the-variants as ellipsoid
-use Rattle.kinds.specs.Kinds.{new, answer, on-ellipsoid, project}
+use Rattle.kinds.specs.Kinds.{new, on-ellipsoid, build, answer, project}
 use Rattle.kinds.specs.declared.Method.{Method}
 use Rattle.kinds.specs.declared.Method.the-variants.{L, S, A, E, C, P, G}
 use Rattle.kinds.specs.declared.Way.{Way}
@@ -22,11 +22,11 @@ with-lat0 s lat0 = record { lon0 = s .lon0; lat0 = lat0; lat1 = s .lat1; lat2 = 
 -- what builds the same projection gives the same answer
 same : (way : Way) (method : Method) (a f : Float) (s t : Settings) (u v : Float) → ((e : Ellipsoid) → new method e s ≡ new method e t)
     → project way method a f s u v ≡ project way method a f t u v
-unfolding project on-ellipsoid
-same way method a f s t u v h = go (from-a-f a f)
+unfolding project build
+same way method a f s t u v h = ap (λ (q : NewProjection). answer way q u v) (go (from-a-f a f))
   where
-    go : (b : BuiltEllipsoid) → on-ellipsoid way method s u v b ≡ on-ellipsoid way method t u v b
-    go (ellipsoid.Built e) = ap (λ (q : NewProjection). answer way q u v) (h e)
+    go : (b : BuiltEllipsoid) → on-ellipsoid method s b ≡ on-ellipsoid method t b
+    go (ellipsoid.Built e) = h e
     go (ellipsoid.Refused n) = refl
 
 pub parallels-unused : (way : Way) (method : Method) (a f : Float) (s : Settings) (lat1 lat2 u v : Float) → (method ≡ A → ⊥)

@@ -107,5 +107,5 @@ unfolding float-sign.negative float-sign.abs float-sign.signum float-limits.clam
     american-americanpolyconic.sin-e american-americanpolyconic.at-latitude american-americanpolyconic.place american-americanpolyconic.formula
     american-americanpolyconic.inverse kinds-kinds.lambert kinds-kinds.albers kinds-kinds.equal-earth kinds-kinds.cassini kinds-kinds.polyconic
     kinds-kinds.guam kinds-kinds.new kinds-kinds.forward kinds-kinds.formula kinds-kinds.inverse kinds-kinds.on-map kinds-kinds.built-answer
-    kinds-kinds.answer kinds-kinds.on-ellipsoid kinds-kinds.project ofBits toBits ofInt round units odd size neg add sub mul div rem lt le eq isNan
+    kinds-kinds.answer kinds-kinds.refused kinds-kinds.build kinds-kinds.project ofBits toBits ofInt round units odd size neg add sub mul div rem lt le eq isNan
 cases = refl

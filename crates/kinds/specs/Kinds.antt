@@ -1,4 +1,5 @@
 -- The choice over the seven kinds, with the meridian numbers beside it.
+use Prim.Native.Nat.{ℕ}
 use mathlib.Core.List.{List}
 use lib.ListN.{replicate}
 use lib.Ieee.{Float}
@@ -119,12 +120,19 @@ unfoldable pub answer : Way → NewProjection → Float → Float → Answer
 unfolding built-answer
 answer way q u v = built-answer way (q .built) (q .en) u v
 
-unfoldable pub on-ellipsoid : Way → Method → Settings → Float → Float → BuiltEllipsoid → Answer
-unfolding answer new
-on-ellipsoid way method s u v (ellipsoid.Built e) = answer way (new method e s) u v
-on-ellipsoid way method s u v (ellipsoid.Refused n) = answered.Refused n
+unfoldable pub refused : ℕ → NewProjection
+refused n = plain (Refused n)
 
--- the ellipsoid's checks, then the projection's, then the point's
+-- a projection on the ellipsoid of a and f: the ellipsoid's checks, then the projection's
+abbrev pub on-ellipsoid : Method → Settings → BuiltEllipsoid → NewProjection
+on-ellipsoid method s (ellipsoid.Built e) = new method e s
+on-ellipsoid method s (ellipsoid.Refused n) = refused n
+
+unfoldable pub build : Method → Float → Float → Settings → NewProjection
+unfolding new refused
+build method a f s = on-ellipsoid method s (from-a-f a f)
+
+-- the projection's checks, then the point's
 unfoldable pub project : Way → Method → Float → Float → Settings → Float → Float → Answer
-unfolding on-ellipsoid
-project way method a f s u v = on-ellipsoid way method s u v (from-a-f a f)
+unfolding answer build
+project way method a f s u v = answer way (build method a f s) u v

@@ -1,2 +1,4 @@
+pub mod Ascii
+pub mod Letters
 pub mod Kinds
 pub mod Cases

@@ -1,7 +1,9 @@
 // The choice over the seven kinds: the source's trait and make_projection.
+mod letters;
+
 ghost use mathlib.Core.Path.{_≡_};
 ghost use Rattle.projection.specs.OnTheMap.{OnTheMap};
-ghost use Rattle.kinds.specs.Kinds.{lambert, albers, equal-earth, cassini, polyconic, guam, new, forward, formula, inverse, answer, project};
+ghost use Rattle.kinds.specs.Kinds.{lambert, albers, equal-earth, cassini, polyconic, guam, new, forward, formula, inverse, refused, build, answer, project};
 use albers_equal_area::AlbersEqualArea;
 use albers_equal_area::BuiltAlbersEqualArea;
 use american_polyconic::AmericanPolyconic;
@@ -16,6 +18,11 @@ use guam_projection::BuiltGuamProjection;
 use guam_projection::GuamProjection;
 use lambert_azimuthal_equal_area::BuiltLambertAzimuthalEqualArea;
 use lambert_azimuthal_equal_area::LambertAzimuthalEqualArea;
+pub use letters::LINE_FORM;
+pub use letters::is_kind;
+pub use letters::is_way;
+pub use letters::method_of;
+pub use letters::way_of;
 use projection::Answer;
 
 // A kind by its letter on a sheet: L Lambert, S its spherical form, A Albers, E Equal Earth, C Cassini, P polyconic, G Guam.
@@ -224,7 +231,28 @@ impl Projection {
     }
 }
 
-fn answer(way: Way, new: NewProjection, u: f64, v: f64) -> Answer
+// No projection, and why.
+pub fn refused(n: u8) -> NewProjection
+    ensures { λ r. ⌜ r ≡ refused n ⌝ }
+{
+    let built = BuiltKind::Refused(n);
+    let en = [0.0; 13];
+    NewProjection { built, en }
+}
+
+// A projection of a kind on the ellipsoid of a and f: the ellipsoid's checks, then the projection's.
+pub fn build(method: Method, a: f64, f: f64, settings: Settings) -> NewProjection
+    ensures { λ r. ⌜ r ≡ build method a f settings ⌝ }
+{
+    let built = Ellipsoid::from_a_f(a, f);
+    match built {
+        BuiltEllipsoid::Built(ellipsoid) => Projection::new(method, ellipsoid, settings),
+        BuiltEllipsoid::Refused(n) => refused(n),
+    }
+}
+
+// One point by a projection that was built before, or its refusal.
+pub fn answer(way: Way, new: NewProjection, u: f64, v: f64) -> Answer
     ensures { λ r. ⌜ r ≡ answer way new u v ⌝ }
 {
     let built = new.built;
@@ -241,7 +269,7 @@ fn answer(way: Way, new: NewProjection, u: f64, v: f64) -> Answer
     }
 }
 
-// One point as a line of a sheet asks for it: the ellipsoid's checks, then the projection's, then the point's.
+// One point as a line of a sheet asks for it.
 pub fn project(
     way: Way,
     method: Method,
@@ -253,14 +281,5 @@ pub fn project(
 ) -> Answer
     ensures { λ r. ⌜ r ≡ project way method a f settings u v ⌝ }
 {
-    let built = Ellipsoid::from_a_f(a, f);
-    match built {
-        BuiltEllipsoid::Built(ellipsoid) => answer(
-            way,
-            Projection::new(method, ellipsoid, settings),
-            u,
-            v,
-        ),
-        BuiltEllipsoid::Refused(n) => Answer::Refused(n),
-    }
+    answer(way, build(method, a, f, settings), u, v)
 }

@@ -1,4 +1,1 @@
-pub mod Answers
-pub mod Columns
 pub mod Ellipsoids
-pub mod Letters

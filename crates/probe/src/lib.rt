@@ -11,9 +11,7 @@ ghost use Rattle.fixed.specs.Logarithm.{ln};
 ghost use Rattle.fixed.specs.Powers.{powf-3-2};
 ghost use Rattle.fixed.specs.Turns.{rem-euclid};
 
-mod columns;
 mod of_ellipsoid;
-mod of_kinds;
 mod of_projection;
 
 // What a call costs.

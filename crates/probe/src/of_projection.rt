@@ -10,7 +10,7 @@ ghost use Rattle.projection.specs.Refusals.{FALSE-EASTING};
 ghost use Rattle.projection.specs.Longitude.{normalize-longitude};
 ghost use Rattle.projection.specs.Authalic.{authalic-q, authalic-latitude, geodetic-from-authalic};
 ghost use Rattle.projection.specs.Meridian.{meridian-arc-coefficients, meridian-arc, inverse-meridian-arc};
-use crate::of_kinds::number;
+use capi::number;
 use projection::meridian_arc_coefficients;
 use projection::refusals::FALSE_EASTING;
 

@@ -3,26 +3,12 @@ use crate::line::digit;
 use crate::line::number;
 use float::bits_of;
 use float::f64_of;
-use kinds::Method;
 use kinds::Settings;
-use kinds::Way;
 use libc::STDOUT_FILENO;
 use projection::Answer;
 
 fn field(line: &[u8]) -> f64 {
     f64_of(number(line))
-}
-
-fn method(letter: u8) -> Method {
-    match letter {
-        b'L' => Method::L,
-        b'S' => Method::S,
-        b'A' => Method::A,
-        b'E' => Method::E,
-        b'C' => Method::C,
-        b'P' => Method::P,
-        _ => Method::G,
-    }
 }
 
 // Our answer to the line.
@@ -37,11 +23,6 @@ fn projected(line: [u8; 211]) -> Answer {
     let false_northing = field(&line[123..139]);
     let u = field(&line[140..156]);
     let v = field(&line[157..173]);
-    let way = if line[0] == b'F' {
-        Way::Forward
-    } else {
-        Way::Inverse
-    };
     let settings = Settings {
         lon0,
         lat0,
@@ -50,7 +31,15 @@ fn projected(line: [u8; 211]) -> Answer {
         false_easting,
         false_northing,
     };
-    kinds::project(way, method(line[2]), a, f, settings, u, v)
+    kinds::project(
+        kinds::way_of(line[0]),
+        kinds::method_of(line[2]),
+        a,
+        f,
+        settings,
+        u,
+        v,
+    )
 }
 
 // A number and two results as patterns.

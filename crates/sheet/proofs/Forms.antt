@@ -1,34 +1,16 @@
--- The laws of a value line's definitions, as matches and the loop over its numbers meet them.
+-- The laws of a value line's definitions, as the loop over its numbers meets them.
 use Prim.Native.Nat.{ℕ, _+_, _<_, _≤_}
-use mathlib.Core.Path.{_≡_, refl}
-use mathlib.Core.Logic.{inl, inr}
-use mathlib.Core.List.{List, [], _∷_}
-use mathlib.Core.Bool.{Bool, true, false, _&&_, _||_}
+use mathlib.Core.Path.{_≡_}
+use mathlib.Core.List.{List, []}
+use mathlib.Core.Bool.{true, false, _&&_}
 use native.Mathlib.Omega.{arith}
 use native.Mathlib.Numerals.{add-one}
 use borrow.Author.Tests.{eq-eqb, ne-eqb}
 use lib.ListN.{length, drop, drop-of-length-le}
 use lib.Seq.{drop-cons}
 use lib.Dec.{eqb}
-use types.Run.{OneOf}
 use Rattle.sheet.specs.Fields.{fields, field}
-use Rattle.sheet.specs.ValueLine.{one-of, is-number, all-numbers}
-
-or-true : (a : Bool) → (a || true) ≡ true
-or-true true = refl
-or-true false = refl
-
--- what a `match` on single bytes says, as the test
-pub hits : (k : ℕ) (ks : List ℕ) (b : ℕ) → OneOf (k ∷ ks) b → one-of (k ∷ ks) b ≡ true
-unfolding one-of
-hits k [] b e = simp (eq-eqb b k e)
-hits k (j ∷ ks) b (inl e) = simp (eq-eqb b k e)
-hits k (j ∷ ks) b (inr h) = rw (hits j ks b h) (or-true (eqb b k))
-
-pub misses : (k : ℕ) (ks : List ℕ) (b : ℕ) → (OneOf (k ∷ ks) b → ⊥) → one-of (k ∷ ks) b ≡ false
-unfolding one-of
-misses k [] b h = simp (ne-eqb b k h)
-misses k (j ∷ ks) b h = simp (ne-eqb b k (λ e. h (inl e))) (misses j ks b (λ e. h (inr e)))
+use Rattle.sheet.specs.ValueLine.{is-number, all-numbers}
 
 -- the numbers from field i on
 module _ (l : List ℕ) (i : ℕ) (e : 12 ≡ length (fields l)) where

@@ -12,7 +12,7 @@ use Rattle.projection.specs.declared.Answer.{Answer}
 use Rattle.projection.specs.declared.Answer.the-variants.{Refused}
 use Rattle.projection.specs.Answer.{number, first-result, second-result}
 use Rattle.float.specs.Constants.{+0}
-use Rattle.sheet.specs.Ascii.{ascii}
+use Rattle.kinds.specs.Ascii.{ascii}
 use Rattle.sheet.specs.Fields.{before, after, joined, fields}
 use Rattle.sheet.specs.ValueLine.{has-form, read-values, read-line}
 use Rattle.sheet.specs.Written.{Written}

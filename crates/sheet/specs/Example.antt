@@ -11,10 +11,11 @@ use Rattle.projection.specs.Longitude as longitude
 use Rattle.projection.specs.Ends as ends
 use Rattle.american_polyconic.specs.AmericanPolyconic as polyconic
 use Rattle.kinds.specs.Kinds as kinds
-use Rattle.sheet.specs.Ascii.{ascii}
+use Rattle.kinds.specs.Ascii.{ascii}
+use Rattle.kinds.specs.Letters.{one-of, is-way, is-kind, way-of, method-of}
 use Rattle.sheet.specs.Hex.{digit-value, read-hex, glyph, digits}
 use Rattle.sheet.specs.Fields.{before, after, fields, field}
-use Rattle.sheet.specs.ValueLine.{letter, one-of, is-way, is-kind, way, method, is-number, number, all-numbers, has-form, read-values, read-line}
+use Rattle.sheet.specs.ValueLine.{letter, is-number, number, all-numbers, has-form, read-values, read-line}
 use Rattle.sheet.specs.AnswerLine.{decimal, bit-field, row, answer-line}
 use Rattle.sheet.specs.SheetText.{answer, lines, body, names, answer-names, same, sheet-text}
 
@@ -26,9 +27,9 @@ output = ascii "code,p,q\n0,3fe0000000000000,0000000000000000\n"
 
 pub example : sheet-text input ≡ output
 unfolding ascii input output sheet-text same names answer-names before after lines body answer read-line has-form read-values fields field letter
-    one-of is-way is-kind way method is-number number all-numbers read-hex digit-value answer-line row decimal bit-field digits glyph sign.negative
+    one-of is-way is-kind way-of method-of is-number number all-numbers read-hex digit-value answer-line row decimal bit-field digits glyph sign.negative
     sign.abs turns.rem-euclid ellipsoid.from-a-f ellipsoid.e2 checks.or-else checks.guard checks.validate-angle checks.validate-latitude-param
     checks.validate-offset checks.validate-lon-lat longitude.eastern longitude.normalize-longitude ends.ensure-finite-xy polyconic.built polyconic.new
-    polyconic.forward kinds.polyconic kinds.new kinds.forward kinds.on-map kinds.built-answer kinds.answer kinds.on-ellipsoid kinds.project ofBits
+    polyconic.forward kinds.polyconic kinds.new kinds.forward kinds.on-map kinds.built-answer kinds.answer kinds.refused kinds.build kinds.project ofBits
     toBits neg add sub mul rem lt le eq
 example = refl

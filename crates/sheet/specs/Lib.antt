@@ -1,4 +1,3 @@
-pub mod Ascii
 pub mod Hex
 pub mod Fields
 pub mod ValueLine

@@ -7,7 +7,7 @@ use lib.ListN.{length}
 use Rattle.projection.specs.declared.Answer.{Answer}
 use Rattle.projection.specs.declared.Answer.the-variants.{Refused}
 use Rattle.kinds.specs.Kinds.{project}
-use Rattle.sheet.specs.Ascii.{ascii}
+use Rattle.kinds.specs.Ascii.{ascii}
 use Rattle.sheet.specs.Fields.{before, after, joined}
 use Rattle.sheet.specs.ValueLine.{read-line}
 use Rattle.sheet.specs.AnswerLine.{answer-line}

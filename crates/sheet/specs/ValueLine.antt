@@ -1,15 +1,11 @@
 -- A value line: its form, and what its fields say.
 use Prim.Native.Nat.{ℕ}
 use mathlib.Core.List.{List, [], _∷_}
-use mathlib.Core.Bool.{Bool, true, false, cond, _&&_, _||_}
+use mathlib.Core.Bool.{Bool, true, false, cond, _&&_}
 use lib.ListN.{length, drop, getD}
 use lib.Dec.{eqb}
 use lib.Ieee.{Float, ofBits, binary64}
-use Rattle.kinds.specs.declared.Method.{Method}
-use Rattle.kinds.specs.declared.Method.the-variants.{L, S, A, E, C, P, G}
-use Rattle.kinds.specs.declared.Way.{Way}
-use Rattle.kinds.specs.declared.Way.the-variants.{Forward, Inverse}
-use Rattle.sheet.specs.Ascii.{ascii}
+use Rattle.kinds.specs.Letters.{is-way, is-kind, way-of, method-of}
 use Rattle.sheet.specs.Hex.{read-hex}
 use Rattle.sheet.specs.Fields.{fields, field}
 use Rattle.sheet.specs.declared.hex.Hex.{Hex}
@@ -21,24 +17,6 @@ use Rattle.sheet.specs.declared.value_line.ValueLine.the-variants as lin
 -- the byte of a field of one byte; 0 for any other field
 unfoldable pub letter : List ℕ → ℕ
 letter f = cond (eqb (length f) 1) (getD f 0 0) 0
-
-unfoldable pub one-of : List ℕ → ℕ → Bool
-one-of [] b = false
-one-of (k ∷ ks) b = eqb b k || one-of ks b
-
-unfoldable pub is-way : ℕ → Bool
-is-way b = one-of (ascii "FI") b
-
-unfoldable pub is-kind : ℕ → Bool
-is-kind b = one-of (ascii "ACEGLPS") b
-
--- F forward, I inverse
-unfoldable pub way : ℕ → Way
-way b = cond (eqb b 70) Forward Inverse
-
--- the kind by its letter, G where it is none of the others
-unfoldable pub method : ℕ → Method
-method b = cond (eqb b 76) L (cond (eqb b 83) S (cond (eqb b 65) A (cond (eqb b 69) E (cond (eqb b 67) C (cond (eqb b 80) P G)))))
 
 abbrev pub is-bits : Hex → Bool
 is-bits (hex.Bits n) = true
@@ -67,8 +45,8 @@ has-form l = eqb (length (fields l)) 12 && (is-way (letter (field l 0)) && (is-k
 unfoldable pub read-values : List ℕ → Values
 read-values l =
     record {
-      way = way (letter (field l 0));
-      method = method (letter (field l 1));
+      way = way-of (letter (field l 0));
+      method = method-of (letter (field l 1));
       a = number (field l 2);
       f = number (field l 3);
       settings =

@@ -8,13 +8,12 @@ use crate::answer_line::put_answer;
 use crate::fields::end_of;
 use crate::value_line::ValueLine;
 use crate::value_line::read_line;
+use kinds::LINE_FORM;
 use kinds::project;
 use projection::Answer;
 
-// Document 01's refusals of a sheet as such: it is over the limit, or a line has another form.
+// Document 01's refusal of a sheet over the limit.
 const OVER_LIMIT: u8 = 1;
-
-const LINE_FORM: u8 = 2;
 
 // The most bytes that a sheet may have.
 const LIMIT: usize = 65536;

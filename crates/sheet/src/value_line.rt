@@ -2,7 +2,7 @@
 ghost use mathlib.Core.Path.{_≡_};
 ghost use lib.ListN.{length, drop};
 ghost use Rattle.sheet.specs.Fields.{fields, field};
-ghost use Rattle.sheet.specs.ValueLine.{letter, is-way, is-kind, way, method, is-number, number, all-numbers, has-form, read-values, read-line};
+ghost use Rattle.sheet.specs.ValueLine.{letter, is-number, number, all-numbers, has-form, read-values, read-line};
 use crate::fields::comma_count;
 use crate::fields::field;
 use crate::hex::Hex;
@@ -34,48 +34,6 @@ fn letter(line: &[u8], i: usize) -> u8
 {
     let part = field(line, i);
     if part.len() == 1 { part[0] } else { 0 }
-}
-
-fn is_way(b: u8) -> bool
-    ensures { λ r. ⌜ r ≡ is-way b ⌝ }
-{
-    match b {
-        b'F' | b'I' => true,
-        _ => false,
-    }
-}
-
-fn is_kind(b: u8) -> bool
-    ensures { λ r. ⌜ r ≡ is-kind b ⌝ }
-{
-    match b {
-        b'L' | b'S' | b'A' | b'E' | b'C' | b'P' | b'G' => true,
-        _ => false,
-    }
-}
-
-fn way(b: u8) -> Way
-    ensures { λ r. ⌜ r ≡ way b ⌝ }
-{
-    if b == b'F' {
-        Way::Forward
-    } else {
-        Way::Inverse
-    }
-}
-
-fn method(b: u8) -> Method
-    ensures { λ r. ⌜ r ≡ method b ⌝ }
-{
-    match b {
-        b'L' => Method::L,
-        b'S' => Method::S,
-        b'A' => Method::A,
-        b'E' => Method::E,
-        b'C' => Method::C,
-        b'P' => Method::P,
-        _ => Method::G,
-    }
 }
 
 fn is_number(line: &[u8], i: usize) -> bool
@@ -116,8 +74,8 @@ fn has_form(line: &[u8]) -> bool
     if comma_count(line) != 11 {
         return false;
     }
-    if is_way(letter(line, 0)) {
-        if is_kind(letter(line, 1)) {
+    if kinds::is_way(letter(line, 0)) {
+        if kinds::is_kind(letter(line, 1)) {
             return all_numbers(line);
         }
     }
@@ -136,8 +94,8 @@ fn read_values(line: &[u8]) -> Values
         false_northing: number(line, 9),
     };
     Values {
-        way: way(letter(line, 0)),
-        method: method(letter(line, 1)),
+        way: kinds::way_of(letter(line, 0)),
+        method: kinds::method_of(letter(line, 1)),
         a: number(line, 2),
         f: number(line, 3),
         settings,

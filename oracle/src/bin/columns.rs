@@ -1,9 +1,10 @@
 //! Times a column of an office's places, or of their projected coordinates, for each kind: ours,
 //! the source with 01's functions, and the source with the platform's. The projection is built
 //! once and takes 200,000 points. A figure is the median of the passes, in ns a point, the sides
-//! taking turns. Ends in 1 where ours does not come to the sum of the source with 01's functions.
+//! taking turns. Ends in 1 where an answer of ours is not that of the source with 01's functions.
+//! `columns growth` times ours for 1,000 to 1,000,000 points.
 
-use oracle::line::{KINDS, Line, U, V, WAYS};
+use oracle::line::{Columns, KINDS, Line, U, V, WAYS};
 use oracle::lines::Lines;
 use oracle::ours;
 use oracle::source::{fixed, platform};
@@ -13,43 +14,89 @@ use std::time::Instant;
 
 const POINTS: usize = 200_000;
 const PASSES: usize = 9;
+const SIZES: [usize; 4] = [1_000, 10_000, 100_000, 1_000_000];
 
-type Side = fn(&Line, &[f64], &[f64]) -> f64;
+type Side = fn(&Line, &[f64], &[f64], &mut Columns);
 const SIDES: [Side; 3] = [ours::column, fixed::door::column, platform::door::column];
 
 fn main() -> ExitCode {
+    match std::env::args().nth(1).as_deref() {
+        None => sides(),
+        Some("growth") => growth(),
+        Some(word) => panic!("not growth: {word}"),
+    }
+}
+
+fn sides() -> ExitCode {
     println!("ns a point: ours, Rust, platform; ours / Rust");
-    let mut differs = false;
+    let mut differ = 0;
     for kind in KINDS {
         for way in WAYS {
-            let lines = Lines::new(way, kind, 3).column(POINTS);
-            let column = |field: usize| lines.iter().map(|line| line.fields[field]).collect();
-            let (u, v): (Vec<f64>, Vec<f64>) = (column(U), column(V));
-            let sums = SIDES.map(|side| side(&lines[0], &u, &v));
-            differs |= sums[0].to_bits() != sums[1].to_bits();
-            let [ours, rust, platform] = medians(&lines[0], &u, &v);
+            let points = Points::new(way, kind, POINTS);
+            let filled = [0, 1].map(|side| points.filled(SIDES[side]));
+            let pairs = filled[0].answers().zip(filled[1].answers());
+            differ += pairs.filter(|(ours, rust)| ours != rust).count();
+            let [ours, rust, platform] = points.medians(SIDES);
             let (w, k, ratio) = (char::from(way), char::from(kind), ours / rust);
             println!("{w},{k} {ours:7.1} {rust:7.1} {platform:7.1} {ratio:6.2}");
         }
     }
-    if differs {
-        println!("a sum is not that of the source");
+    if differ > 0 {
+        println!("{differ} answers are not the source's");
     }
-    ExitCode::from(u8::from(differs))
+    ExitCode::from(u8::from(differ > 0))
 }
 
-/// The median pass of each side, in ns a point.
-fn medians(line: &Line, u: &[f64], v: &[f64]) -> [f64; 3] {
-    let mut passes = [(); 3].map(|()| Vec::with_capacity(PASSES));
-    for _ in 0..PASSES {
-        for (side, times) in SIDES.iter().zip(&mut passes) {
-            let start = Instant::now();
-            black_box(side(line, u, v));
-            times.push(start.elapsed().as_nanos() as f64 / POINTS as f64);
+fn growth() -> ExitCode {
+    println!("ns a point of a column of {SIZES:?}");
+    for kind in KINDS {
+        for way in WAYS {
+            let figures = SIZES.map(|size| Points::new(way, kind, size).medians([SIDES[0]])[0]);
+            let (w, k) = (char::from(way), char::from(kind));
+            println!(
+                "{w},{k} {}",
+                figures.map(|ns| format!("{ns:7.1}")).join(" ")
+            );
         }
     }
-    passes.map(|mut times| {
-        times.sort_by(f64::total_cmp);
-        times[PASSES / 2]
-    })
+    ExitCode::SUCCESS
+}
+
+/// A map and a column of its points.
+struct Points {
+    line: Line,
+    u: Vec<f64>,
+    v: Vec<f64>,
+}
+
+impl Points {
+    fn new(way: u8, kind: u8, count: usize) -> Points {
+        let lines = Lines::new(way, kind, 3).column(count);
+        let column = |field: usize| lines.iter().map(|line| line.fields[field]).collect();
+        let (line, u, v) = (lines[0], column(U), column(V));
+        Points { line, u, v }
+    }
+
+    fn filled(&self, side: Side) -> Columns {
+        let mut filled = Columns::new(self.u.len());
+        side(&self.line, &self.u, &self.v, &mut filled);
+        filled
+    }
+
+    /// The median pass of each side, in ns a point.
+    fn medians<const N: usize>(&self, sides: [Side; N]) -> [f64; N] {
+        let mut filled = Columns::new(self.u.len());
+        let mut passes = [(); N].map(|()| Vec::with_capacity(PASSES));
+        for _ in 0..PASSES {
+            for (side, times) in sides.iter().zip(&mut passes) {
+                let start = Instant::now();
+                side(&self.line, &self.u, &self.v, black_box(&mut filled));
+                times.push(start.elapsed().as_nanos() as f64 / self.u.len() as f64);
+            }
+        }
+        passes.map(|mut times| {
+            times.sort_by(f64::total_cmp);
+            times[PASSES / 2]
+        })
+    }
 }

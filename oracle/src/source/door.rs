@@ -10,7 +10,7 @@ use super::projection::azimuthal_equidistant::GuamProjection;
 use super::projection::cassini_soldner::CassiniSoldner;
 use super::projection::equal_earth::EqualEarth;
 use super::projection::lambert_azimuthal_equal_area::LambertAzimuthalEqualArea;
-use crate::line::{Answer, Line};
+use crate::line::{Answer, Columns, Line};
 
 pub struct Projection(Box<dyn ProjectionImpl>);
 
@@ -41,19 +41,20 @@ pub fn answer(line: &Line) -> Answer {
     }
 }
 
-/// The sum of all results of a column of points, by one projection.
-pub fn column(line: &Line, u: &[f64], v: &[f64]) -> f64 {
+/// A column of points by one projection.
+pub fn column(line: &Line, u: &[f64], v: &[f64], filled: &mut Columns) {
     let map = build(line.kind, &line.fields).ok().expect("a map");
-    let mut total = 0.0;
-    for (&u, &v) in u.iter().zip(v) {
+    for (i, (&u, &v)) in u.iter().zip(v).enumerate() {
         let result = match line.way {
             b'F' => map.forward(u, v),
             _ => map.inverse(u, v),
         };
-        let (p, q) = result.unwrap_or((0.0, 0.0));
-        total += p + q;
+        filled.numbers[i] = 0;
+        (filled.p[i], filled.q[i]) = result.unwrap_or_else(|error| {
+            filled.numbers[i] = number(error);
+            (0.0, 0.0)
+        });
     }
-    total
 }
 
 fn build(kind: u8, fields: &[f64; 10]) -> Result<Box<dyn ProjectionImpl>> {

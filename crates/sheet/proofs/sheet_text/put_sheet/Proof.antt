@@ -6,7 +6,7 @@ use borrow.Author.Needs.{needs}
 use denote.Ref.{now}
 use lib.ListN.{length}
 use lib.Seq.{length-take-le}
-use Rattle.sheet.specs.Ascii.{ascii}
+use Rattle.kinds.specs.Ascii.{ascii}
 use Rattle.sheet.specs.SheetText.{names, answer-names}
 use Rattle.sheet.proofs.Parts.{end-within}
 use Rattle.sheet.proofs.Stores.{then}

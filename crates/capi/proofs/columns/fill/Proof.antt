@@ -1,0 +1,86 @@
+-- Place by place, what the projection answers.
+use Prim.Native.Nat.{_-_}
+use mathlib.Core.Path.{_≡_, sym, _∙_}
+use native.Mathlib.Omega.{arith}
+use borrow.Author.Needs.{needs}
+use lib.ListN.{length}
+use Rattle.kinds.specs.Kinds.{answer}
+use Rattle.capi.proofs.Fills.{Filling, starts, goes-on, ends}
+use Rattle.capi.proofs.columns.fill.Statement.{statement}
+use Rattle.capi.proofs.columns.fill.Tie as tie
+
+abbrev Inv-loop : tie.InvT-loop
+Inv-loop way new u v p₀ q₀ numbers₀ i₀ p q numbers i = Filling (answer way new) u v p q numbers i
+
+abbrev μ-loop : tie.MeasureT-loop
+μ-loop way new u v p₀ q₀ numbers₀ i₀ p q numbers i = length u - i
+
+loop-holds : tie.Need-loop-holds Inv-loop μ-loop
+loop-holds c = let h = c .before .before .before .before .before .pre in starts _ _ _ _ _ _ (h .0) (h .1) (h .2) (h .3)
+
+mul-answer : tie.Need-mul-answer Inv-loop μ-loop
+mul-answer c = search needs
+
+shared-slice-read-answer : tie.Need-shared-slice-read-answer Inv-loop μ-loop
+shared-slice-read-answer c = omega arith
+
+mul-answer-2 : tie.Need-mul-answer-2 Inv-loop μ-loop
+mul-answer-2 c = search needs
+
+shared-slice-read-answer-2 : tie.Need-shared-slice-read-answer-2 Inv-loop μ-loop
+shared-slice-read-answer-2 c = omega (arith, c .before .before .before .loop .inv .v-long)
+
+answer-requires : tie.Need-answer-requires Inv-loop μ-loop
+answer-requires c κs = tt
+
+first-result-requires : tie.Need-first-result-requires Inv-loop μ-loop
+first-result-requires c κs = tt
+
+mul-p : tie.Need-mul-p Inv-loop μ-loop
+mul-p c = search needs
+
+slice-write-p : tie.Need-slice-write-p Inv-loop μ-loop
+slice-write-p c = omega (arith, c .before .before .before .before .before .loop .inv .p-long)
+
+second-result-requires : tie.Need-second-result-requires Inv-loop μ-loop
+second-result-requires c κs = tt
+
+mul-q : tie.Need-mul-q Inv-loop μ-loop
+mul-q c = search needs
+
+slice-write-q : tie.Need-slice-write-q Inv-loop μ-loop
+slice-write-q c = omega (arith, c .before .before .before .before .before .before .loop .inv .q-long)
+
+number-requires : tie.Need-number-requires Inv-loop μ-loop
+number-requires c κs = tt
+
+slice-write-numbers : tie.Need-slice-write-numbers Inv-loop μ-loop
+slice-write-numbers c = omega (arith, c .before .before .before .before .before .before .before .loop .inv .n-long)
+
+add-i : tie.Need-add-i Inv-loop μ-loop
+add-i c = search needs
+
+loop-less : tie.Need-loop-less Inv-loop μ-loop
+loop-less c = omega arith
+
+loop-again : tie.Need-loop-again Inv-loop μ-loop
+loop-again c =
+    let at = c .before .before .before .before .before .before .before .loop in
+    goes-on _ _ _ _ _ _ _ (at .inv) _ _ _ _ _ (omega arith) (c .before .before .before .answer .ensures) (c .before .before .first-result .ensures) (c .before .second-result .ensures) (c .number .ensures)
+
+same-length : tie.Need-same-length Inv-loop μ-loop
+same-length c = c .before .loop .inv .p-long ∙ sym (c .before .before .before .before .before .before .before .pre .1)
+
+same-length-2 : tie.Need-same-length-2 Inv-loop μ-loop
+same-length-2 c = c .before .loop .inv .q-long ∙ sym (c .before .before .before .before .before .before .before .pre .2)
+
+same-length-3 : tie.Need-same-length-3 Inv-loop μ-loop
+same-length-3 c = c .before .loop .inv .n-long ∙ sym (c .before .before .before .before .before .before .before .pre .3)
+
+returns : tie.Need-returns Inv-loop μ-loop
+returns c = ends _ _ _ _ _ _ _ (c .before .loop .inv) (c .loop-test .left)
+
+pub fill-spec : {M : Type 1} → statement M
+fill-spec =
+    tie.close
+    (tie.spec Inv-loop μ-loop loop-holds mul-answer shared-slice-read-answer mul-answer-2 shared-slice-read-answer-2 answer-requires first-result-requires mul-p slice-write-p second-result-requires mul-q slice-write-q number-requires slice-write-numbers add-i loop-less loop-again same-length same-length-2 same-length-3 returns)

@@ -1,0 +1,4 @@
+pub mod Answers
+pub mod Columns
+pub mod Ellipsoids
+pub mod Points
