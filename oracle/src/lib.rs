@@ -3,6 +3,7 @@
 //! on. No crate of a registry.
 
 pub mod cases;
+pub mod damage;
 pub mod fixed;
 pub mod functions;
 pub mod line;
@@ -11,6 +12,8 @@ pub mod methods;
 pub mod offices;
 pub mod ours;
 pub mod patterns;
+pub mod program;
 pub mod sheet;
+pub mod sheets;
 pub mod source;
 pub mod whole;

@@ -2,8 +2,9 @@
 
 use crate::line::{Answer, Line};
 
-const NAMES: &[u8] = b"way,kind,a,f,lon0,lat0,lat1,lat2,fe,fn,u,v";
-const LONGEST: usize = 65_536;
+pub const NAMES: &[u8] = b"way,kind,a,f,lon0,lat0,lat1,lat2,fe,fn,u,v";
+/// The most bytes that a sheet may have.
+pub const LONGEST: usize = 65_536;
 
 /// What the program prints for a sheet, where `answer` projects.
 pub fn answers(sheet: &[u8], answer: fn(&Line) -> Answer) -> String {

@@ -27,14 +27,13 @@ some (suc q) N h = zero-lt-suc q
 pub near-same : (n q : ℕ) → 0 < n → q * q ≤ n → n ≤ q * q + q → NearestWhole n q
 near-same n q N l h = record { above = omega (arith, some q N h); below = h }
 
-pub self-le-square : (a : ℕ) → a ≤ a * a
-self-le-square zero = omega arith
-self-le-square (suc a) = omega arith
-
--- the square of s * 2 ^ 26 + a, against n * 2 ^ 52, without the last 26 digits
-pub near-halves : (n s a : ℕ) → s * s ≤ n → (n - s * s) * 2 ^ 26 ≤ 2 * s * a + s + (a * a + a) / 2 ^ 26 → 2 * s * a + (a * a - a) / 2 ^ 26 < (n - s * s) * 2 ^ 26 + s
-    → NearestWhole (n * 2 ^ 52) (s * 2 ^ 26 + a)
-near-halves n s a l above below =
-    let w : (s * 2 ^ 26 + a) * (s * 2 ^ 26 + a) ≡ 2 ^ 52 * (s * s) + 2 ^ 26 * (2 * s * a) + a * a = omega arith in
-    let k = self-le-square a in
+-- the square of s * 2 ^ 21 + d, against (s * s + r) * 2 ^ 42, without the last 22 digits
+pub near-parts : (r s d : ℕ) → r * 2 ^ 20 ≤ s * d + (d * d) / 2 ^ 22 + (s * 2 ^ 21 + d) / 2 ^ 22 → s * d + (d * d) / 2 ^ 22 < r * 2 ^ 20 + (s * 2 ^ 21 + d) / 2 ^ 22
+    → NearestWhole ((s * s + r) * 2 ^ 42) (s * 2 ^ 21 + d)
+near-parts r s d below above =
+    let w : (s * 2 ^ 21 + d) * (s * 2 ^ 21 + d) ≡ 2 ^ 42 * (s * s) + 2 ^ 22 * (s * d) + d * d = omega arith in
     record { above = omega arith; below = omega arith }
+
+-- what is left of n * 2 ^ 10 beside w
+pub near-left : (n w q : ℕ) → w ≤ n * 2 ^ 10 → NearestWhole ((w + (n * 2 ^ 10 - w)) * 2 ^ 42) q → NearestWhole (n * 2 ^ 52) q
+near-left n w q h r = let e : (w + (n * 2 ^ 10 - w)) * 2 ^ 42 ≡ n * 2 ^ 52 = omega arith in rw e at r

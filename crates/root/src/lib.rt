@@ -2,6 +2,7 @@
 mod digits;
 mod guess;
 mod near;
+mod table;
 
 ghost use mathlib.Core.Path.{_≡_};
 ghost use Prim.Native.Nat.{_*_, _^_, _<_, _≤_};

@@ -1,6 +1,6 @@
--- The guess where it is near, else the root digit by digit.
+-- The root of m shifted by p.
 use mathlib.Core.Path.{_≡_}
-use Prim.Native.Nat.{_*_, _%_, _^_, _<_}
+use Prim.Native.Nat.{_*_, _%_, _^_}
 use native.Mathlib.Omega.{arith}
 use borrow.Author.Needs.{needs}
 use Rattle.root.proofs.RootUnits.{shifted, shifted-lt, shifted-ge}
@@ -10,16 +10,10 @@ use Rattle.root.proofs.near.near_root.Tie as tie
 exact : (c : tie.Start) → (c .args .m * 2 ^ c .args .p) % 2 ^ 64 ≡ c .args .m * 2 ^ c .args .p
 exact c = shifted _ _ (c .pre .1) (c .pre .2)
 
-most : (c : tie.Start) → c .args .m * 2 ^ c .args .p < 2 ^ 54
-most c = shifted-lt _ _ (c .pre .1) (c .pre .2)
-
 pub near-root-spec : {M : Type 1} → statement M
 near-root-spec =
     tie.close
     (tie.spec
     (λ c. search needs)
-    (λ c κs. search needs)
-    (λ c κs. (rw (exact (c .before)) (most (c .before)), c .guess .ensures))
-    (λ c κs. rw (exact (c .before .before .before)) (omega (arith, shifted-ge (c .before .before .before .args .m) (c .before .before .before .args .p)), most (c .before .before .before)))
-    (λ c. rw (exact (c .before .before .before)) at (c .before .is-near .ensures (c .if1 .taken)))
-    (λ c. rw (exact (c .before .before .before .before)) at (c .digit-root .ensures)))
+    (λ c κs. rw (exact c) (omega (arith, shifted-ge (c .args .m) (c .args .p)), shifted-lt _ _ (c .pre .1) (c .pre .2)))
+    (λ c. rw (exact (c .before)) at (c .root-of .ensures)))

@@ -1,0 +1,140 @@
+/*
+ * Lenthuc: map projections for school planning, each with a proof.
+ *
+ * Link with the archive libcapi.a and with libm, for fmod alone:
+ *
+ *     cc program.c -I FOLDER FOLDER/libcapi.a -lm
+ *
+ * The archive is for x86-64 Linux. It exports the five functions below and no other name.
+ *
+ * What holds of every call:
+ *
+ * - Angles are radians. Lengths have the unit of the semi-major axis a.
+ * - The number that a call returns is 0 where it answers. Otherwise it says why not: enum lenthuc_number.
+ *   Where several refusals apply the first in the order of that list is given, but for the latitudes: lat0 is checked by 7
+ *   and 8, then lat1, then lat2.
+ * - Where a point is refused its results are +0. Where it is answered they are finite.
+ * - A double may have any of its 2^64 patterns. All NaN count as one, signalling ones too.
+ * - A call ends whatever it is given, allocates nothing, and keeps nothing: the same arguments have the same answer, bit for
+ *   bit. It may raise floating-point exception flags. Several threads may call at once, as long as none writes what
+ *   another's call uses.
+ *
+ * What a caller owes:
+ *
+ * - A pointer is valid for as many elements as the length after it says (1 where there is none), and aligned for its type.
+ *   Of length 0 it is not used, and may be NULL. A length counts elements, not bytes.
+ * - What is written overlaps nothing else that the same call is lent: neither an input nor another result. So a column is not
+ *   projected in place.
+ * - The floating-point environment is the default one: round to nearest, subnormal numbers kept, no traps. A program that gcc
+ *   or clang links with -Ofast or -ffast-math does not keep subnormal numbers, and some answers are then others.
+ *
+ * 'Proved' below is by Rattle, for every input: the definitions are those of crates/capi/specs.
+ */
+#ifndef LENTHUC_H
+#define LENTHUC_H
+
+#include <stddef.h>
+#include <stdint.h>
+
+#ifdef __cplusplus
+/* C++ has no such word. */
+#define LENTHUC_RESTRICT
+extern "C" {
+#else
+#define LENTHUC_RESTRICT restrict
+#endif
+
+/* The way of a projection, by its letter. */
+enum lenthuc_way {
+    LENTHUC_FORWARD = 'F', /* u, v are longitude and latitude; p, q are easting and northing */
+    LENTHUC_INVERSE = 'I'  /* u, v are easting and northing; p, q are longitude and latitude */
+};
+
+/* The kind of a projection, by its letter. */
+enum lenthuc_kind {
+    LENTHUC_LAMBERT = 'L',           /* Lambert azimuthal equal-area */
+    LENTHUC_LAMBERT_SPHERICAL = 'S', /* its spherical form */
+    LENTHUC_ALBERS = 'A',            /* Albers equal-area conic */
+    LENTHUC_EQUAL_EARTH = 'E',       /* Equal Earth */
+    LENTHUC_CASSINI = 'C',           /* Cassini-Soldner */
+    LENTHUC_POLYCONIC = 'P',         /* American polyconic */
+    LENTHUC_GUAM = 'G'               /* Guam projection */
+};
+
+/* 0, or why there is no answer. "The bound" is pi/2 + 1e-12. */
+enum lenthuc_number {
+    LENTHUC_ANSWERED = 0,
+    LENTHUC_LETTER = 2,                   /* a letter names no way, or no kind */
+    LENTHUC_INVERSE_FLATTENING = 3,       /* the inverse flattening is not finite or not above 1 */
+    LENTHUC_SEMI_MAJOR_AXIS = 4,          /* a is not finite or not above 0 */
+    LENTHUC_FLATTENING = 5,               /* f is not finite or not in [0, 1) */
+    LENTHUC_LON0 = 6,                     /* lon0 is not finite */
+    LENTHUC_LATITUDE_SETTING = 7,         /* lat0, lat1 or lat2 is not finite */
+    LENTHUC_LATITUDE_SETTING_BEYOND = 8,  /* lat0, lat1 or lat2 is beyond the bound */
+    LENTHUC_FALSE_EASTING = 9,            /* the false easting is not finite */
+    LENTHUC_FALSE_NORTHING = 10,          /* the false northing is not finite */
+    LENTHUC_SPHERE = 11,                  /* Guam on a sphere */
+    LENTHUC_POLAR_Q = 12,                 /* Lambert's polar q is not finite or not above 0 */
+    LENTHUC_ORIGIN_NEAR_POLE = 13,        /* Lambert, not polar: the origin is too near a pole */
+    LENTHUC_ORIGIN_SCALE = 14,            /* Lambert's scale d is not finite or not above 0 */
+    LENTHUC_CONE_CONSTANT = 15,           /* Albers: the parallels make no cone */
+    LENTHUC_PLACE = 16,                   /* a longitude or latitude to project is not finite */
+    LENTHUC_PLACE_BEYOND = 17,            /* a latitude to project is beyond the bound */
+    LENTHUC_ANTIPODE = 18,                /* Lambert: the point is opposite the origin */
+    LENTHUC_FORWARD_RESULT = 19,          /* the easting or northing is not finite */
+    LENTHUC_PROJECTED = 20,               /* an easting or northing to invert is not finite */
+    LENTHUC_STEP_AT_POLE = 21,            /* polyconic: a step of the inverse meets a pole */
+    LENTHUC_STEPS_USED_UP = 22,           /* the steps of the inverse are used up */
+    LENTHUC_INVERSE_RESULT = 23,          /* the longitude or latitude is not finite */
+    LENTHUC_INVERSE_BEYOND = 24,          /* the latitude is beyond the bound */
+    LENTHUC_UNEQUAL_LENGTHS = 255         /* columns of unequal lengths: nothing is read or written */
+};
+
+/*
+ * Whether there is an ellipsoid of semi-major axis a and flattening f = (a - b) / a: 0, 4 or 5. A sphere has f = 0.
+ * Proved: the number is that of the definition from-a-f.
+ */
+uint8_t lenthuc_from_a_f(double a, double f);
+
+/*
+ * The same by the inverse flattening rf = 1 / f: 0, 3 or 4. Puts the flattening into *f, +0 of a refusal.
+ * Proved: the number and *f are those of the definition from-a-rf.
+ */
+uint8_t lenthuc_from_a_rf(double a, double rf, double *f);
+
+/*
+ * Whether a projection can be built: 0, or 2 to 15 but 3. lon0, lat0 are the origin, lat1, lat2 the parallels, fe, fn the
+ * false easting and northing. Albers alone uses lat1 and lat2, and Equal Earth does not use lat0. The value of a setting
+ * that a kind does not use never affects an answer.
+ * Proved: the number is that of the projection's construction by the definition build.
+ */
+uint8_t lenthuc_new(uint8_t kind, double a, double f, double lon0, double lat0, double lat1, double lat2, double fe,
+                    double fn);
+
+/*
+ * Projects one point, after building the projection. Returns 0, or 2 to 24 but 3, and puts the results into *p and *q.
+ * The projection's constants are not kept from one call to the next, so a table of points is faster by lenthuc_column.
+ * Proved: the number, *p and *q are those of the definition project, bit for bit.
+ */
+uint8_t lenthuc_project(uint8_t way, uint8_t kind, double a, double f, double lon0, double lat0, double lat1, double lat2,
+                        double fe, double fn, double u, double v, double *LENTHUC_RESTRICT p,
+                        double *LENTHUC_RESTRICT q);
+
+/*
+ * Projects a column of points by one projection, built once. u, v, p, q and numbers have us, vs, ps, qs and ns elements.
+ * Where these are equal, returns 0, and puts the results of point i into p[i] and q[i] and its number into numbers[i]. A
+ * refused point does not stop the others. A refused letter or setting is the number of every point, and 0 is still returned.
+ * Columns of length 0 have no points: 0 is returned, and that is all. Where the lengths are not all equal, returns
+ * LENTHUC_UNEQUAL_LENGTHS.
+ * Proved: 0, and at each place what lenthuc_project gives for it; or 255, and p, q and numbers as they were.
+ */
+uint8_t lenthuc_column(uint8_t way, uint8_t kind, double a, double f, double lon0, double lat0, double lat1, double lat2,
+                       double fe, double fn, const double *u, size_t us, const double *v, size_t vs,
+                       double *LENTHUC_RESTRICT p, size_t ps, double *LENTHUC_RESTRICT q, size_t qs,
+                       uint8_t *LENTHUC_RESTRICT numbers, size_t ns);
+
+#ifdef __cplusplus
+}
+#endif
+
+#endif

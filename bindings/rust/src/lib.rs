@@ -1,0 +1,75 @@
+//! Map projections for school planning, each with a proof.
+//!
+//! Every answer is computed by Lenthuc's archive, which is written in Rattle. There each function
+//! is proved to give, for every input, the number and the bits that a definition states. This crate
+//! is a thin, safe cover over it: types in the shape of the Rust library that Lenthuc is a port of.
+//! The cover itself is tested, and not proved.
+//!
+//! ```
+//! use lenthuc::{CassiniSoldner, Ellipsoid, Projection, Refusal};
+//!
+//! // IOGP 7-2's example, Trinidad 1903 / Trinidad Grid, in Clarke's links.
+//! let clarke = Ellipsoid::from_a_rf(31706587.88, 294.2606764)?;
+//! let lon0 = -(61.0 + 20.0 / 60.0_f64).to_radians();
+//! let lat0 = (10.0 + 26.0 / 60.0 + 30.0 / 3600.0_f64).to_radians();
+//! let trinidad = CassiniSoldner::new(clarke, lon0, lat0, 430000.0, 325000.0)?;
+//!
+//! let (easting, northing) = trinidad.forward((-62.0_f64).to_radians(), 10.0_f64.to_radians())?;
+//! assert_eq!(format!("{easting:.2} {northing:.2}"), "66644.94 82536.22");
+//!
+//! let (lon, lat) = trinidad.inverse(66644.94, 82536.22)?;
+//! assert_eq!(format!("{:.6} {:.6}", lon.to_degrees(), lat.to_degrees()), "-62.000000 10.000000");
+//!
+//! // What cannot be answered is refused.
+//! assert_eq!(trinidad.forward(0.0, 2.0), Err(Refusal::PlaceBeyond));
+//! # Ok::<(), Refusal>(())
+//! ```
+//!
+//! Angles are radians. Eastings and northings have the unit of the ellipsoid's semi-major axis.
+//!
+//! # One point, or many
+//!
+//! A single call builds the projection anew each time: a type here holds the settings, and its
+//! constants are not kept across the boundary to the archive. So a table of points goes through
+//! [`Projection::forward_column`] or [`Projection::inverse_column`], which build once and allocate
+//! nothing, or through [`Projection::forward_points`] or [`Projection::inverse_points`], which are
+//! the same with vectors. All give the same answers, bit for bit.
+//!
+//! # What to rely on
+//!
+//! - Any `f64` may be handed to any function, whatever its bits. Every call ends.
+//! - An answer's coordinates are finite.
+//! - Nothing is kept between calls, so threads can share a projection.
+//! - The thread's floating-point environment must be the default one, as Rust demands of all code. A
+//!   C library that was linked with `-ffast-math` may change it.
+//!
+//! # Linking
+//!
+//! The archive is `libcapi.a`, which `rt staticlib capi` proves and writes into `target/staticlib`
+//! at the top of Lenthuc's repository. The build looks there, or in the folder that the environment
+//! variable `LENTHUC_ARCHIVE` names by an absolute path. The archive is for x86-64 Linux.
+
+#![deny(missing_docs, unsafe_op_in_unsafe_fn)]
+
+mod ellipsoid;
+mod kinds;
+mod projection;
+mod raw;
+mod refusal;
+mod settings;
+
+// The README's example is run with the others.
+#[cfg(doctest)]
+#[doc = include_str!("../README.md")]
+mod readme {}
+
+pub use ellipsoid::{
+    AIRY1830, BESSEL1841, CLARKE1866, Ellipsoid, GRS80, INTL1924, KRASSOWSKY, UNIT_SPHERE, WGS84,
+    WGS84_SPHERE,
+};
+pub use kinds::{
+    AlbersEqualArea, AmericanPolyconic, CassiniSoldner, EqualEarth, GuamProjection,
+    LambertAzimuthalEqualArea,
+};
+pub use projection::Projection;
+pub use refusal::{Answer, Refusal, UnequalLengths};

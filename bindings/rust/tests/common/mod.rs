@@ -1,0 +1,125 @@
+//! What the tests share: any kind by its letter, and a seeded source of numbers.
+
+// Each test is a program of its own and uses a part of this.
+#![allow(dead_code)]
+
+use lenthuc::{
+    AlbersEqualArea, AmericanPolyconic, Answer, CassiniSoldner, Ellipsoid, EqualEarth,
+    GuamProjection, LambertAzimuthalEqualArea, Projection, Refusal, UnequalLengths,
+};
+
+pub const WAYS: [u8; 2] = *b"FI";
+pub const KINDS: [u8; 7] = *b"LSAECPG";
+
+/// Quiet and signalling NaN of both signs, with several payloads.
+pub const NANS: [u64; 8] = [
+    0x7ff8_0000_0000_0000,
+    0xfff8_0000_0000_0000,
+    0x7ff8_0000_0000_0001,
+    0x7fff_ffff_ffff_ffff,
+    0xffff_ffff_ffff_ffff,
+    0x7ff0_0000_0000_0001,
+    0xfff0_0000_0000_0001,
+    0x7ff4_dead_beef_cafe,
+];
+
+/// Settings in a sheet's order: a, f, lon0, lat0, lat1, lat2, fe, fn.
+pub type Settings = [f64; 8];
+
+/// A map of the Earth on which every kind can be built.
+pub const EARTH: Settings = [
+    6378137.0,
+    1.0 / 298.257223563,
+    0.3,
+    0.7,
+    0.5,
+    0.9,
+    500000.0,
+    -200000.0,
+];
+
+/// The projection of a kind's letter.
+pub fn build(kind: u8, settings: Settings) -> Result<Box<dyn Projection>, Refusal> {
+    let [a, f, lon0, lat0, lat1, lat2, fe, fn_] = settings;
+    let ellipsoid = Ellipsoid::from_a_f(a, f)?;
+    Ok(match kind {
+        b'L' => Box::new(LambertAzimuthalEqualArea::new(
+            ellipsoid, lon0, lat0, fe, fn_,
+        )?),
+        b'S' => Box::new(LambertAzimuthalEqualArea::new_spherical(
+            ellipsoid, lon0, lat0, fe, fn_,
+        )?),
+        b'A' => Box::new(AlbersEqualArea::new(
+            ellipsoid, lon0, lat0, lat1, lat2, fe, fn_,
+        )?),
+        b'E' => Box::new(EqualEarth::new(ellipsoid, lon0, fe, fn_)?),
+        b'C' => Box::new(CassiniSoldner::new(ellipsoid, lon0, lat0, fe, fn_)?),
+        b'P' => Box::new(AmericanPolyconic::new(ellipsoid, lon0, lat0, fe, fn_)?),
+        b'G' => Box::new(GuamProjection::new(ellipsoid, lon0, lat0, fe, fn_)?),
+        _ => panic!("no kind has the letter {kind}"),
+    })
+}
+
+/// One point, by a way's letter.
+pub fn project(map: &dyn Projection, way: u8, u: f64, v: f64) -> Answer {
+    match way {
+        b'F' => map.forward(u, v),
+        b'I' => map.inverse(u, v),
+        _ => panic!("no way has the letter {way}"),
+    }
+}
+
+/// A column of points, by a way's letter.
+pub fn column(
+    map: &dyn Projection,
+    way: u8,
+    [u, v]: [&[f64]; 2],
+    [p, q]: [&mut [f64]; 2],
+    numbers: &mut [u8],
+) -> Result<(), UnequalLengths> {
+    match way {
+        b'F' => map.forward_column(u, v, p, q, numbers),
+        b'I' => map.inverse_column(u, v, p, q, numbers),
+        _ => panic!("no way has the letter {way}"),
+    }
+}
+
+/// A number, 0 if answered, and the patterns of two results.
+pub type Bits = (u8, u64, u64);
+
+/// An answer as a sheet has it.
+pub fn bits(answer: Answer) -> Bits {
+    match answer {
+        Ok((p, q)) => (0, p.to_bits(), q.to_bits()),
+        Err(refusal) => (refusal.number(), 0, 0),
+    }
+}
+
+/// A seeded source of numbers (SplitMix64).
+pub struct Random(pub u64);
+
+impl Random {
+    pub fn bits(&mut self) -> u64 {
+        self.0 = self.0.wrapping_add(0x9e37_79b9_7f4a_7c15);
+        let mut z = self.0;
+        z = (z ^ (z >> 30)).wrapping_mul(0xbf58_476d_1ce4_e5b9);
+        z = (z ^ (z >> 27)).wrapping_mul(0x94d0_49bb_1331_11eb);
+        z ^ (z >> 31)
+    }
+
+    /// Uniform in [-size, size).
+    pub fn within(&mut self, size: f64) -> f64 {
+        self.bits().cast_signed() as f64 * 2.0_f64.powi(-63) * size
+    }
+
+    /// An input of a map: mostly of the size that a way's inputs have, else any pattern or a NaN.
+    pub fn input(&mut self, way: u8) -> f64 {
+        let nan = NANS[self.bits() as usize % NANS.len()];
+        match (self.bits() % 16, way) {
+            (0, _) => f64::from_bits(nan),
+            (1..4, _) => f64::from_bits(self.bits()),
+            (_, b'F') => self.within(1.6),
+            _ => self.within(6e6),
+        }
+    }
+}

@@ -1,0 +1,166 @@
+//! Each refusal by an input that has it, and the refusals as errors.
+
+mod common;
+
+use common::{Settings, build, project};
+use lenthuc::{Ellipsoid, Refusal, UnequalLengths};
+use std::collections::HashSet;
+use std::error::Error;
+use std::f64::consts::{FRAC_PI_2, PI};
+
+/// Places in `Settings`.
+const A: usize = 0;
+const F: usize = 1;
+const LON0: usize = 2;
+const LAT0: usize = 3;
+const LAT1: usize = 4;
+const LAT2: usize = 5;
+const FE: usize = 6;
+const FN: usize = 7;
+
+/// Settings by name. The others are 0, and a is 1.
+fn settings(named: &[(usize, f64)]) -> Settings {
+    let mut settings = [0.0; 8];
+    settings[A] = 1.0;
+    for &(place, value) in named {
+        settings[place] = value;
+    }
+    settings
+}
+
+/// What building a kind is refused for.
+fn built(kind: u8, named: &[(usize, f64)]) -> Option<Refusal> {
+    build(kind, settings(named)).err()
+}
+
+/// What a point is refused for, of a kind that can be built.
+fn projected(name: &[u8; 2], named: &[(usize, f64)], u: f64, v: f64) -> Option<Refusal> {
+    let [way, kind] = *name;
+    let map = build(kind, settings(named)).expect("a projection");
+    project(&*map, way, u, v).err()
+}
+
+#[test]
+fn of_ellipsoids() {
+    let bad = [f64::NAN, f64::INFINITY, f64::NEG_INFINITY, -1.0];
+    for x in bad.into_iter().chain([0.0, -0.0]) {
+        assert_eq!(Ellipsoid::from_a_f(x, 0.5), Err(Refusal::SemiMajorAxis));
+        assert_eq!(Ellipsoid::from_a_rf(x, 300.0), Err(Refusal::SemiMajorAxis));
+        assert_eq!(Ellipsoid::sphere(x), Err(Refusal::SemiMajorAxis));
+    }
+    for x in bad.into_iter().chain([0.0, 1.0]) {
+        assert_eq!(
+            Ellipsoid::from_a_rf(1.0, x),
+            Err(Refusal::InverseFlattening)
+        );
+    }
+    for x in bad.into_iter().chain([1.0]) {
+        assert_eq!(Ellipsoid::from_a_f(1.0, x), Err(Refusal::Flattening));
+    }
+    // in the order of the checks
+    assert_eq!(
+        Ellipsoid::from_a_rf(0.0, 1.0),
+        Err(Refusal::InverseFlattening)
+    );
+    assert_eq!(Ellipsoid::from_a_f(0.0, 1.0), Err(Refusal::SemiMajorAxis));
+}
+
+#[test]
+fn of_settings() {
+    let bound = FRAC_PI_2 + 1e-12;
+    let near_1 = 1.0 - 2.0_f64.powi(-53);
+    for kind in common::KINDS {
+        assert_eq!(built(kind, &[(LON0, f64::INFINITY)]), Some(Refusal::Lon0));
+        assert_eq!(built(kind, &[(FE, f64::NAN)]), Some(Refusal::FalseEasting));
+        assert_eq!(built(kind, &[(FN, f64::NAN)]), Some(Refusal::FalseNorthing));
+    }
+    for kind in *b"LSACPG" {
+        let refused = built(kind, &[(LAT0, f64::NAN)]);
+        assert_eq!(refused, Some(Refusal::LatitudeSetting));
+        let refused = built(kind, &[(LAT0, bound.next_up())]);
+        assert_eq!(refused, Some(Refusal::LatitudeSettingBeyond));
+    }
+    assert_eq!(built(b'G', &[]), Some(Refusal::Sphere));
+    assert_eq!(built(b'G', &[(F, -0.0)]), Some(Refusal::Sphere));
+    assert_eq!(built(b'L', &[(F, near_1)]), Some(Refusal::PolarQ));
+    assert_eq!(built(b'L', &[(LAT0, bound)]), Some(Refusal::OriginNearPole));
+    let lat0 = FRAC_PI_2 - 1e-9;
+    assert_eq!(built(b'S', &[(LAT0, lat0)]), Some(Refusal::OriginNearPole));
+    let opposite = [(F, 1.0 / 300.0), (LAT1, 0.5), (LAT2, -0.5)];
+    assert_eq!(built(b'A', &opposite), Some(Refusal::ConeConstant));
+}
+
+/// The scale of the largest maps there are overflows.
+#[test]
+fn of_lamberts_scale() {
+    let f = f64::from_bits(0x3cc2_03af_9ee7_5617);
+    let largest = [(A, f64::MAX), (F, f), (LAT0, -1.0)];
+    assert_eq!(built(b'L', &largest), Some(Refusal::OriginScale));
+    assert_eq!(built(b'S', &largest), Some(Refusal::OriginScale));
+}
+
+/// Latitude by latitude: not finite, then beyond.
+#[test]
+fn of_latitudes_in_their_order() {
+    let refused = built(b'A', &[(LAT0, 3.0), (LAT1, f64::NAN)]);
+    assert_eq!(refused, Some(Refusal::LatitudeSettingBeyond));
+    let refused = built(b'A', &[(LAT1, 3.0), (LAT2, f64::NAN)]);
+    assert_eq!(refused, Some(Refusal::LatitudeSettingBeyond));
+    let refused = built(b'A', &[(LAT1, f64::NAN), (LAT2, 3.0)]);
+    assert_eq!(refused, Some(Refusal::LatitudeSetting));
+}
+
+#[test]
+fn of_points() {
+    let ellipsoid = [(F, 1.0 / 300.0)];
+    let parallels = [(LAT1, 0.5), (LAT2, -0.5)];
+    let near_1 = [(F, 1.0 - 2.0_f64.powi(-53))];
+    let cases = [
+        (projected(b"FE", &[], f64::NAN, 0.0), Refusal::Place),
+        (projected(b"FE", &[], 0.0, f64::INFINITY), Refusal::Place),
+        (projected(b"FC", &[], 0.0, 1.6), Refusal::PlaceBeyond),
+        (projected(b"FS", &[], PI, 0.0), Refusal::Antipode),
+        (
+            projected(b"FA", &parallels, 0.0, 0.0),
+            Refusal::ForwardResult,
+        ),
+        (
+            projected(b"IG", &ellipsoid, f64::NAN, 0.0),
+            Refusal::Projected,
+        ),
+        (
+            projected(b"IP", &ellipsoid, 0.0, FRAC_PI_2),
+            Refusal::StepAtPole,
+        ),
+        (projected(b"IA", &parallels, 0.0, 0.0), Refusal::StepsUsedUp),
+        (projected(b"IC", &near_1, 0.1, 0.5), Refusal::InverseResult),
+        (projected(b"IC", &[], 0.0, 2.0), Refusal::InverseBeyond),
+    ];
+    for (refused, expected) in cases {
+        assert_eq!(refused, Some(expected));
+    }
+}
+
+/// Numbers name refusals and refusals have numbers, 3 to 24, and no other number is one.
+#[test]
+fn by_number() {
+    for number in 0..=u8::MAX {
+        let named = Refusal::from_number(number);
+        assert_eq!(named.is_some(), (3..=24).contains(&number), "{number}");
+        assert_eq!(named.map(Refusal::number), named.map(|_| number));
+    }
+}
+
+#[test]
+fn as_errors() {
+    let messages: HashSet<_> = (3..=24)
+        .filter_map(Refusal::from_number)
+        .map(|refusal| refusal.to_string())
+        .collect();
+    assert_eq!(messages.len(), 22, "each has its own message");
+    assert!(messages.iter().all(|message| message.len() > 20));
+    let boxed: Box<dyn Error + Send + Sync> = Box::new(Refusal::Antipode);
+    assert_eq!(boxed.downcast_ref(), Some(&Refusal::Antipode));
+    let boxed: Box<dyn Error + Send + Sync> = Box::new(UnequalLengths);
+    assert_eq!(boxed.to_string(), "the columns have unequal lengths");
+}
