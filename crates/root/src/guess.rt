@@ -25,7 +25,9 @@ pub(crate) fn reciprocal_root(n: u64) -> u64
 {
     let k = n >> 46;
     let t = (n >> 14) % 0x1_0000_0000;
+    let square = product(t, t) >> 32;
     let w = slopes(k as u8);
+    let line = less(constant(k), t, w >> 32);
     let curve = less(w / 0x2000 % 0x8_0000, t, w % 0x2000);
-    less(constant(k), t, less(w >> 32, t, curve))
+    (line + (product(curve, square) >> 32)) % 0x1_0000_0000
 }
