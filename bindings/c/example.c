@@ -80,7 +80,7 @@ static void a_point_back(void)
 /* The third point's latitude is beyond a pole. Its neighbours are answered as single calls answer them. */
 static void a_column(void)
 {
-    static const uint8_t expected[POINTS] = {LENTHUC_ANSWERED, LENTHUC_ANSWERED, LENTHUC_PLACE_BEYOND, LENTHUC_ANSWERED};
+    static const uint8_t expected[POINTS] = {LENTHUC_ANSWERED, LENTHUC_ANSWERED, LENTHUC_FORWARD_BEYOND, LENTHUC_ANSWERED};
     const double lon[POINTS] = {radians(-62.0), radians(-61.5), radians(-61.5), radians(-61.0)};
     const double lat[POINTS] = {radians(10.0), radians(10.5), radians(105.0), radians(11.0)};
     double easting[POINTS], northing[POINTS];
@@ -120,8 +120,8 @@ static void other_letters(void)
     double p, q;
     uint8_t number = project('f', radians(-62.0), radians(10.0), &p, &q);
     printf("the way f: %d\n", number);
-    check(number == LENTHUC_LETTER && bits(p) == 0 && bits(q) == 0, "a letter that names no way");
-    check(lenthuc_new('c', a, f, lon0, lat0, 0.0, 0.0, false_easting, false_northing) == LENTHUC_LETTER,
+    check(number == LENTHUC_LINE_FORM && bits(p) == 0 && bits(q) == 0, "a letter that names no way");
+    check(lenthuc_new('c', a, f, lon0, lat0, 0.0, 0.0, false_easting, false_northing) == LENTHUC_LINE_FORM,
           "a letter that names no kind");
 }
 

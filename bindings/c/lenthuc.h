@@ -61,33 +61,57 @@ enum lenthuc_kind {
     LENTHUC_GUAM = 'G'               /* Guam projection */
 };
 
-/* 0, or why there is no answer. "The bound" is pi/2 + 1e-12. */
+/* 0, or why there is no answer: what the comment above a number says. */
 enum lenthuc_number {
     LENTHUC_ANSWERED = 0,
-    LENTHUC_LETTER = 2,                   /* a letter names no way, or no kind */
-    LENTHUC_INVERSE_FLATTENING = 3,       /* the inverse flattening is not finite or not above 1 */
-    LENTHUC_SEMI_MAJOR_AXIS = 4,          /* a is not finite or not above 0 */
-    LENTHUC_FLATTENING = 5,               /* f is not finite or not in [0, 1) */
-    LENTHUC_LON0 = 6,                     /* lon0 is not finite */
-    LENTHUC_LATITUDE_SETTING = 7,         /* lat0, lat1 or lat2 is not finite */
-    LENTHUC_LATITUDE_SETTING_BEYOND = 8,  /* lat0, lat1 or lat2 is beyond the bound */
-    LENTHUC_FALSE_EASTING = 9,            /* the false easting is not finite */
-    LENTHUC_FALSE_NORTHING = 10,          /* the false northing is not finite */
-    LENTHUC_SPHERE = 11,                  /* Guam on a sphere */
-    LENTHUC_POLAR_Q = 12,                 /* Lambert's polar q is not finite or not above 0 */
-    LENTHUC_ORIGIN_NEAR_POLE = 13,        /* Lambert, not polar: the origin is too near a pole */
-    LENTHUC_ORIGIN_SCALE = 14,            /* Lambert's scale d is not finite or not above 0 */
-    LENTHUC_CONE_CONSTANT = 15,           /* Albers: the parallels make no cone */
-    LENTHUC_PLACE = 16,                   /* a longitude or latitude to project is not finite */
-    LENTHUC_PLACE_BEYOND = 17,            /* a latitude to project is beyond the bound */
-    LENTHUC_ANTIPODE = 18,                /* Lambert: the point is opposite the origin */
-    LENTHUC_FORWARD_RESULT = 19,          /* the easting or northing is not finite */
-    LENTHUC_PROJECTED = 20,               /* an easting or northing to invert is not finite */
-    LENTHUC_STEP_AT_POLE = 21,            /* polyconic: a step of the inverse meets a pole */
-    LENTHUC_STEPS_USED_UP = 22,           /* the steps of the inverse are used up */
-    LENTHUC_INVERSE_RESULT = 23,          /* the longitude or latitude is not finite */
-    LENTHUC_INVERSE_BEYOND = 24,          /* the latitude is beyond the bound */
-    LENTHUC_UNEQUAL_LENGTHS = 255         /* columns of unequal lengths: nothing is read or written */
+    /* a line does not have the sheet's form, or a letter names no way or no kind */
+    LENTHUC_LINE_FORM = 2,
+    /* the inverse flattening (1/f) is not a finite number above 1 */
+    LENTHUC_INVERSE_FLATTENING = 3,
+    /* the semi-major axis (a) is not a finite number above 0 */
+    LENTHUC_SEMI_MAJOR_AXIS = 4,
+    /* the flattening (f) is not a number from 0 up to, but not including, 1 */
+    LENTHUC_FLATTENING = 5,
+    /* the origin's longitude (lon0) is not a finite number */
+    LENTHUC_LON0 = 6,
+    /* the latitude of the origin (lat0) or of a parallel (lat1, lat2) is not a finite number */
+    LENTHUC_LATITUDE_SETTING = 7,
+    /* the latitude of the origin (lat0) or of a parallel (lat1, lat2) is beyond 90 degrees (pi/2 + 1e-12) */
+    LENTHUC_LATITUDE_SETTING_BEYOND = 8,
+    /* the false easting (fe) is not a finite number */
+    LENTHUC_FALSE_EASTING = 9,
+    /* the false northing (fn) is not a finite number */
+    LENTHUC_FALSE_NORTHING = 10,
+    /* Guam: the ellipsoid is a sphere (e2 is 0) */
+    LENTHUC_SPHERE = 11,
+    /* Lambert: q at the pole is not a finite number above 0 */
+    LENTHUC_POLAR_Q = 12,
+    /* Lambert: the origin is near a pole but not at it (its authalic cosine is below 1e-12 in size) */
+    LENTHUC_ORIGIN_NEAR_POLE = 13,
+    /* Lambert: the origin's scale (d) is not a finite number above 0 */
+    LENTHUC_ORIGIN_SCALE = 14,
+    /* Albers: the parallels make no cone (its constant n is below 1e-12 in size) */
+    LENTHUC_CONE_CONSTANT = 15,
+    /* the longitude or latitude given is not a finite number */
+    LENTHUC_FORWARD_INPUT = 16,
+    /* the latitude given is beyond 90 degrees (pi/2 + 1e-12) */
+    LENTHUC_FORWARD_BEYOND = 17,
+    /* Lambert: the point is opposite the origin (the denominator is 0 or below) */
+    LENTHUC_ANTIPODE = 18,
+    /* the easting or northing worked out is not a finite number */
+    LENTHUC_FORWARD_RESULT = 19,
+    /* the easting or northing given is not a finite number */
+    LENTHUC_INVERSE_INPUT = 20,
+    /* polyconic: a step of the inverse meets a pole (the cosine is below 1e-12 in size) */
+    LENTHUC_STEP_AT_POLE = 21,
+    /* the steps of the inverse are used up before it settles (15 steps; polyconic 20) */
+    LENTHUC_STEPS_USED_UP = 22,
+    /* the longitude or latitude worked out is not a finite number */
+    LENTHUC_INVERSE_RESULT = 23,
+    /* the latitude worked out is beyond 90 degrees (pi/2 + 1e-12) */
+    LENTHUC_INVERSE_BEYOND = 24,
+    /* the columns have unequal lengths: nothing is read or written */
+    LENTHUC_UNEQUAL_LENGTHS = 255
 };
 
 /*

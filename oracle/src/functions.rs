@@ -146,10 +146,8 @@ macro_rules! coefficient {
     };
 }
 
-/// What the kinds share.
-pub const PARTS: [Function; 26] = [
-    part!(from_a_rf, 2, u64::from),
-    part!(from_a_f, 2, u64::from),
+/// The ellipsoid's numbers, and the units of its angles.
+pub const ELLIPSOID: [Function; 10] = [
     part!(inverse_flattening, Takes::Ellipsoid(2), [0, 1], bits_of),
     part!(b, Takes::Ellipsoid(2), [0, 1], bits_of),
     part!(e2, Takes::Ellipsoid(2), [0, 1], bits_of),
@@ -160,6 +158,12 @@ pub const PARTS: [Function; 26] = [
     part!(m_radius, Takes::Ellipsoid(3), [0, 1, 2], bits_of),
     part!(deg_to_rad, 1, bits_of),
     part!(rad_to_deg, 1, bits_of),
+];
+
+/// What the kinds share.
+pub const PARTS: [Function; 16] = [
+    part!(from_a_rf, 2, u64::from),
+    part!(from_a_f, 2, u64::from),
     part!(validate_angle, 1, u64::from),
     part!(validate_latitude_param, 1, u64::from),
     part!(validate_offset, 1, u64::from),

@@ -4,6 +4,7 @@
 
 pub mod cases;
 pub mod damage;
+pub mod ellipsoids;
 pub mod fixed;
 pub mod functions;
 pub mod line;
@@ -13,7 +14,9 @@ pub mod offices;
 pub mod ours;
 pub mod patterns;
 pub mod program;
+pub mod sharp;
 pub mod sheet;
 pub mod sheets;
 pub mod source;
+pub mod stored;
 pub mod whole;

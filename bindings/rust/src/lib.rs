@@ -21,7 +21,7 @@
 //! assert_eq!(format!("{:.6} {:.6}", lon.to_degrees(), lat.to_degrees()), "-62.000000 10.000000");
 //!
 //! // What cannot be answered is refused.
-//! assert_eq!(trinidad.forward(0.0, 2.0), Err(Refusal::PlaceBeyond));
+//! assert_eq!(trinidad.forward(0.0, 2.0), Err(Refusal::ForwardBeyond));
 //! # Ok::<(), Refusal>(())
 //! ```
 //!

@@ -20,7 +20,7 @@ pub trait Projection: Built + Send + Sync {
     }
 
     /// Longitude and latitude of an easting and northing. They lie on the map: the longitude is in
-    /// [-π, π], and the latitude within the bound.
+    /// [-π, π], and the latitude in [-π/2 - 1e-12, π/2 + 1e-12].
     ///
     /// # Errors
     ///
@@ -47,7 +47,7 @@ pub trait Projection: Built + Send + Sync {
     /// let (mut easting, mut northing, mut numbers) = ([9.0; 3], [9.0; 3], [9; 3]);
     /// world.forward_column(&lon, &lat, &mut easting, &mut northing, &mut numbers)?;
     /// assert_eq!(numbers, [0, 16, 0]);
-    /// assert_eq!(Refusal::from_number(numbers[1]), Some(Refusal::Place));
+    /// assert_eq!(Refusal::from_number(numbers[1]), Some(Refusal::ForwardInput));
     /// assert_eq!((easting[1], northing[1]), (0.0, 0.0));
     /// assert_eq!(Ok((easting[2], northing[2])), world.forward(2.0, -0.5));
     ///
@@ -92,7 +92,7 @@ pub trait Projection: Built + Send + Sync {
     ///
     /// let map = CassiniSoldner::new(UNIT_SPHERE, 0.0, 0.0, 0.0, 0.0)?;
     /// let answers = map.forward_points(&[(0.0, 0.5), (0.0, 2.0)]);
-    /// assert_eq!(answers, [Ok((0.0, 0.5)), Err(Refusal::PlaceBeyond)]);
+    /// assert_eq!(answers, [Ok((0.0, 0.5)), Err(Refusal::ForwardBeyond)]);
     /// # Ok::<(), Refusal>(())
     /// ```
     fn forward_points(&self, points: &[(f64, f64)]) -> Vec<Answer> {

@@ -6,124 +6,70 @@ use std::fmt;
 /// What a projection gives for a point: a pair of coordinates, or why there is none.
 pub type Answer = Result<(f64, f64), Refusal>;
 
-/// Why there is no answer. "The bound" on latitudes is π/2 + 1e-12.
-///
-/// Where several apply, the first is given: by [`number`](Refusal::number), but latitude setting by
-/// latitude setting.
-#[derive(Clone, Copy, Debug, PartialEq, Eq, Hash)]
-#[non_exhaustive]
-#[repr(u8)]
-pub enum Refusal {
-    /// The inverse flattening is not finite or not above 1.
-    InverseFlattening = 3,
-    /// The semi-major axis is not finite or not above 0.
-    SemiMajorAxis = 4,
-    /// The flattening is not finite or not in [0, 1).
-    Flattening = 5,
-    /// The longitude of the origin is not finite.
-    Lon0 = 6,
-    /// The latitude of the origin, or a parallel, is not finite.
-    LatitudeSetting = 7,
-    /// The latitude of the origin, or a parallel, is beyond the bound.
-    LatitudeSettingBeyond = 8,
-    /// The false easting is not finite.
-    FalseEasting = 9,
-    /// The false northing is not finite.
-    FalseNorthing = 10,
-    /// The Guam projection on a sphere.
-    Sphere = 11,
-    /// Lambert: the polar q is not finite or not above 0.
-    PolarQ = 12,
-    /// Lambert, not polar: the origin is too near a pole.
-    OriginNearPole = 13,
-    /// Lambert: the scale d is not finite or not above 0.
-    OriginScale = 14,
-    /// Albers: the parallels make no cone.
-    ConeConstant = 15,
-    /// A longitude or latitude to project is not finite.
-    Place = 16,
-    /// A latitude to project is beyond the bound.
-    PlaceBeyond = 17,
-    /// Lambert: the point is opposite the origin.
-    Antipode = 18,
-    /// The easting or northing is not finite.
-    ForwardResult = 19,
-    /// An easting or northing to invert is not finite.
-    Projected = 20,
-    /// Polyconic: a step of the inverse meets a pole.
-    StepAtPole = 21,
-    /// The steps of the inverse are used up.
-    StepsUsedUp = 22,
-    /// The longitude or latitude is not finite.
-    InverseResult = 23,
-    /// The inverse latitude is beyond the bound.
-    InverseBeyond = 24,
+/// Makes the enum of its rows: a variant, its number and its words, which are both its document and
+/// its message.
+macro_rules! refusals {
+    ($($variant:ident = $number:literal, $words:literal;)*) => {
+        /// Why there is no answer.
+        ///
+        /// Where several apply, the first is given: by [`number`](Refusal::number), but latitude
+        /// setting by latitude setting.
+        #[derive(Clone, Copy, Debug, PartialEq, Eq, Hash)]
+        #[non_exhaustive]
+        #[repr(u8)]
+        pub enum Refusal {
+            $(#[doc = concat!($words, ".")] $variant = $number,)*
+        }
+
+        impl Refusal {
+            /// The refusal's number, as in a sheet and in a column of numbers.
+            pub const fn number(self) -> u8 {
+                self as u8
+            }
+
+            /// The refusal of a number. None of 0, which stands for an answer, and of a number that
+            /// is no refusal.
+            pub const fn from_number(number: u8) -> Option<Self> {
+                match number {
+                    $($number => Some(Self::$variant),)*
+                    _ => None,
+                }
+            }
+
+            const fn message(self) -> &'static str {
+                match self {
+                    $(Self::$variant => $words,)*
+                }
+            }
+        }
+    };
 }
 
-impl Refusal {
-    /// The refusal's number, as in a sheet and in a column of numbers.
-    pub const fn number(self) -> u8 {
-        self as u8
-    }
-
-    /// The refusal of a number. None of 0, which stands for an answer, and of a number that is no
-    /// refusal.
-    pub const fn from_number(number: u8) -> Option<Self> {
-        Some(match number {
-            3 => Self::InverseFlattening,
-            4 => Self::SemiMajorAxis,
-            5 => Self::Flattening,
-            6 => Self::Lon0,
-            7 => Self::LatitudeSetting,
-            8 => Self::LatitudeSettingBeyond,
-            9 => Self::FalseEasting,
-            10 => Self::FalseNorthing,
-            11 => Self::Sphere,
-            12 => Self::PolarQ,
-            13 => Self::OriginNearPole,
-            14 => Self::OriginScale,
-            15 => Self::ConeConstant,
-            16 => Self::Place,
-            17 => Self::PlaceBeyond,
-            18 => Self::Antipode,
-            19 => Self::ForwardResult,
-            20 => Self::Projected,
-            21 => Self::StepAtPole,
-            22 => Self::StepsUsedUp,
-            23 => Self::InverseResult,
-            24 => Self::InverseBeyond,
-            _ => return None,
-        })
-    }
-
-    const fn message(self) -> &'static str {
-        match self {
-            Self::InverseFlattening => "the inverse flattening is not finite or not above 1",
-            Self::SemiMajorAxis => "the semi-major axis is not finite or not above 0",
-            Self::Flattening => "the flattening is not finite or not in [0, 1)",
-            Self::Lon0 => "the longitude of the origin is not finite",
-            Self::LatitudeSetting => "the latitude of the origin, or a parallel, is not finite",
-            Self::LatitudeSettingBeyond => {
-                "the latitude of the origin, or a parallel, is beyond π/2 + 1e-12"
-            }
-            Self::FalseEasting => "the false easting is not finite",
-            Self::FalseNorthing => "the false northing is not finite",
-            Self::Sphere => "the Guam projection is not defined on a sphere",
-            Self::PolarQ => "Lambert's polar q is not finite or not above 0",
-            Self::OriginNearPole => "Lambert's origin is too near a pole, and not at it",
-            Self::OriginScale => "Lambert's scale d is not finite or not above 0",
-            Self::ConeConstant => "Albers' parallels make no cone",
-            Self::Place => "the longitude or latitude to project is not finite",
-            Self::PlaceBeyond => "the latitude to project is beyond π/2 + 1e-12",
-            Self::Antipode => "the point is opposite Lambert's origin",
-            Self::ForwardResult => "the easting or northing is not finite",
-            Self::Projected => "the easting or northing to invert is not finite",
-            Self::StepAtPole => "a step of the polyconic's inverse meets a pole",
-            Self::StepsUsedUp => "the steps of the inverse are used up",
-            Self::InverseResult => "the inverse's longitude or latitude is not finite",
-            Self::InverseBeyond => "the inverse's latitude is beyond π/2 + 1e-12",
-        }
-    }
+// The rows of docs/refusals.txt whose numbers a point or a setting can get through this crate. A
+// letter that names no way or no kind, 2, cannot be written with its types.
+refusals! {
+    InverseFlattening = 3, "the inverse flattening (1/f) is not a finite number above 1";
+    SemiMajorAxis = 4, "the semi-major axis (a) is not a finite number above 0";
+    Flattening = 5, "the flattening (f) is not a number from 0 up to, but not including, 1";
+    Lon0 = 6, "the origin's longitude (lon0) is not a finite number";
+    LatitudeSetting = 7, "the latitude of the origin (lat0) or of a parallel (lat1, lat2) is not a finite number";
+    LatitudeSettingBeyond = 8, "the latitude of the origin (lat0) or of a parallel (lat1, lat2) is beyond 90 degrees (pi/2 + 1e-12)";
+    FalseEasting = 9, "the false easting (fe) is not a finite number";
+    FalseNorthing = 10, "the false northing (fn) is not a finite number";
+    Sphere = 11, "Guam: the ellipsoid is a sphere (e2 is 0)";
+    PolarQ = 12, "Lambert: q at the pole is not a finite number above 0";
+    OriginNearPole = 13, "Lambert: the origin is near a pole but not at it (its authalic cosine is below 1e-12 in size)";
+    OriginScale = 14, "Lambert: the origin's scale (d) is not a finite number above 0";
+    ConeConstant = 15, "Albers: the parallels make no cone (its constant n is below 1e-12 in size)";
+    ForwardInput = 16, "the longitude or latitude given is not a finite number";
+    ForwardBeyond = 17, "the latitude given is beyond 90 degrees (pi/2 + 1e-12)";
+    Antipode = 18, "Lambert: the point is opposite the origin (the denominator is 0 or below)";
+    ForwardResult = 19, "the easting or northing worked out is not a finite number";
+    InverseInput = 20, "the easting or northing given is not a finite number";
+    StepAtPole = 21, "polyconic: a step of the inverse meets a pole (the cosine is below 1e-12 in size)";
+    StepsUsedUp = 22, "the steps of the inverse are used up before it settles (15 steps; polyconic 20)";
+    InverseResult = 23, "the longitude or latitude worked out is not a finite number";
+    InverseBeyond = 24, "the latitude worked out is beyond 90 degrees (pi/2 + 1e-12)";
 }
 
 impl fmt::Display for Refusal {
@@ -134,13 +80,18 @@ impl fmt::Display for Refusal {
 
 impl Error for Refusal {}
 
-/// The columns handed over have unequal lengths: nothing was read or written.
+/// The columns have unequal lengths: nothing is read or written.
 #[derive(Clone, Copy, Debug, PartialEq, Eq, Hash)]
 pub struct UnequalLengths;
 
+impl UnequalLengths {
+    /// The archive's number for it.
+    pub const NUMBER: u8 = 255;
+}
+
 impl fmt::Display for UnequalLengths {
     fn fmt(&self, f: &mut fmt::Formatter<'_>) -> fmt::Result {
-        f.pad("the columns have unequal lengths")
+        f.pad("the columns have unequal lengths: nothing is read or written")
     }
 }
 
@@ -151,7 +102,10 @@ pub(crate) fn answered(number: u8) -> Result<(), Refusal> {
     if number == 0 {
         return Ok(());
     }
-    // The archive gives these numbers alone, so this speaks of an archive of another version.
-    Err(Refusal::from_number(number)
-        .unwrap_or_else(|| panic!("libcapi.a gave the number {number}, which lenthuc lacks")))
+    Err(Refusal::from_number(number).unwrap_or_else(|| unknown(number)))
+}
+
+/// The archive gives the numbers above alone, so another one speaks of an archive of another version.
+pub(crate) fn unknown(number: u8) -> ! {
+    panic!("libcapi.a gave the number {number}, which lenthuc lacks")
 }

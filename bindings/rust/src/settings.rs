@@ -2,7 +2,7 @@
 
 use crate::ellipsoid::Ellipsoid;
 use crate::raw;
-use crate::refusal::{Answer, Refusal, UnequalLengths, answered};
+use crate::refusal::{Answer, Refusal, UnequalLengths, answered, unknown};
 
 /// A way, by its letter.
 #[derive(Clone, Copy)]
@@ -83,7 +83,8 @@ impl Settings {
     ) -> Result<(), UnequalLengths> {
         match raw::column(way, self, inputs, results, numbers) {
             0 => Ok(()),
-            _ => Err(UnequalLengths),
+            UnequalLengths::NUMBER => Err(UnequalLengths),
+            number => unknown(number),
         }
     }
 

@@ -86,13 +86,13 @@ fn have_refused_points_in_their_middle() {
         let points: Vec<_> = lon.into_iter().zip(lat).collect();
         let answers = map.forward_points(&points);
         assert_eq!(answers[0], map.forward(0.1, 0.1));
-        assert_eq!(answers[1], Err(Refusal::PlaceBeyond));
-        assert_eq!(answers[2], Err(Refusal::Place));
+        assert_eq!(answers[1], Err(Refusal::ForwardBeyond));
+        assert_eq!(answers[2], Err(Refusal::ForwardInput));
         assert_eq!(answers[3], map.forward(0.4, 0.4));
-        assert_eq!(answers[4], Err(Refusal::Place));
+        assert_eq!(answers[4], Err(Refusal::ForwardInput));
         assert!(answers[0].is_ok() && answers[3].is_ok());
         let back = map.inverse_points(&[(1.0, f64::NAN), (6e5, -1e5)]);
-        assert_eq!(back, [Err(Refusal::Projected), map.inverse(6e5, -1e5)]);
+        assert_eq!(back, [Err(Refusal::InverseInput), map.inverse(6e5, -1e5)]);
         assert!(back[1].is_ok());
     }
 }

@@ -64,7 +64,7 @@ unsafe extern "C" {
     ) -> u8;
 }
 
-const NO_LETTER: u8 = 2;
+const LINE_FORM: u8 = 2;
 
 fn new(kind: u8, [a, f, lon0, lat0, lat1, lat2, fe, fn_]: Settings) -> u8 {
     lenthuc_new(kind, a, f, lon0, lat0, lat1, lat2, fe, fn_)
@@ -120,14 +120,14 @@ fn letters() {
     let mut named = 0;
     for kind in 0..=u8::MAX {
         let known = KINDS.contains(&kind);
-        assert_eq!(new(kind, EARTH), if known { 0 } else { NO_LETTER });
+        assert_eq!(new(kind, EARTH), if known { 0 } else { LINE_FORM });
         for way in 0..=u8::MAX {
             let point = project(way, kind, EARTH);
             if known && WAYS.contains(&way) {
                 named += 1;
                 assert_eq!(point.0, 0);
             } else {
-                assert_eq!(point, (NO_LETTER, 0, 0));
+                assert_eq!(point, (LINE_FORM, 0, 0));
             }
             assert_eq!(column(way, kind, EARTH), [point; 3]);
         }
@@ -139,9 +139,9 @@ fn letters() {
 #[test]
 fn refusals_in_their_order() {
     let mut settings = [f64::NAN; 8];
-    assert_eq!(project(b'F', b'x', settings), (NO_LETTER, 0, 0));
-    assert_eq!(project(b'x', b'A', settings), (NO_LETTER, 0, 0));
-    assert_eq!(new(b'x', settings), NO_LETTER);
+    assert_eq!(project(b'F', b'x', settings), (LINE_FORM, 0, 0));
+    assert_eq!(project(b'x', b'A', settings), (LINE_FORM, 0, 0));
+    assert_eq!(new(b'x', settings), LINE_FORM);
     for (place, number) in [4, 5, 6, 7, 7, 7, 9, 10].into_iter().enumerate() {
         assert_eq!(new(b'A', settings), number);
         for way in WAYS {

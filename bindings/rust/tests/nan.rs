@@ -59,7 +59,10 @@ fn of_the_settings() {
 fn of_a_point() {
     for kind in KINDS {
         let map = build(kind, EARTH).expect("a map of the Earth");
-        for (way, refusal) in WAYS.into_iter().zip([Refusal::Place, Refusal::Projected]) {
+        for (way, refusal) in WAYS
+            .into_iter()
+            .zip([Refusal::ForwardInput, Refusal::InverseInput])
+        {
             for x in not_finite() {
                 assert_eq!(project(&*map, way, x, 0.1), Err(refusal));
                 assert_eq!(project(&*map, way, 0.1, x), Err(refusal));

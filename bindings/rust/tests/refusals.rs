@@ -116,9 +116,12 @@ fn of_points() {
     let parallels = [(LAT1, 0.5), (LAT2, -0.5)];
     let near_1 = [(F, 1.0 - 2.0_f64.powi(-53))];
     let cases = [
-        (projected(b"FE", &[], f64::NAN, 0.0), Refusal::Place),
-        (projected(b"FE", &[], 0.0, f64::INFINITY), Refusal::Place),
-        (projected(b"FC", &[], 0.0, 1.6), Refusal::PlaceBeyond),
+        (projected(b"FE", &[], f64::NAN, 0.0), Refusal::ForwardInput),
+        (
+            projected(b"FE", &[], 0.0, f64::INFINITY),
+            Refusal::ForwardInput,
+        ),
+        (projected(b"FC", &[], 0.0, 1.6), Refusal::ForwardBeyond),
         (projected(b"FS", &[], PI, 0.0), Refusal::Antipode),
         (
             projected(b"FA", &parallels, 0.0, 0.0),
@@ -126,7 +129,7 @@ fn of_points() {
         ),
         (
             projected(b"IG", &ellipsoid, f64::NAN, 0.0),
-            Refusal::Projected,
+            Refusal::InverseInput,
         ),
         (
             projected(b"IP", &ellipsoid, 0.0, FRAC_PI_2),
@@ -162,5 +165,6 @@ fn as_errors() {
     let boxed: Box<dyn Error + Send + Sync> = Box::new(Refusal::Antipode);
     assert_eq!(boxed.downcast_ref(), Some(&Refusal::Antipode));
     let boxed: Box<dyn Error + Send + Sync> = Box::new(UnequalLengths);
-    assert_eq!(boxed.to_string(), "the columns have unequal lengths");
+    let words = "the columns have unequal lengths: nothing is read or written";
+    assert_eq!(boxed.to_string(), words);
 }

@@ -9,22 +9,21 @@ use Rattle.float.specs.Operators.{_⊕_, _⊖_, _⊗_, _⊘_, _≺_, f64}
 use Rattle.float.specs.Constants.{one, two, ratio}
 use Rattle.float.specs.Sign.{abs, signum}
 use Rattle.root.specs.Root.{root}
-use Rattle.fixed.specs.Trigonometry.{sine, cosine}
+use Rattle.trigonometry.specs.Trigonometry.{sine, cosine}
 use Rattle.fixed.specs.Arctangent.{arcsine, atan2}
 use Rattle.fixed.specs.Logarithm.{ln}
 use Rattle.ellipsoid.specs.Ellipsoid.{e2}
 use Rattle.ellipsoid.specs.declared.Ellipsoid.{Ellipsoid}
-use Rattle.projection.specs.Refusals.{FALSE-EASTING, FALSE-NORTHING, CONE-CONSTANT}
-use Rattle.projection.specs.Checks.{or-else, guard, validate-angle, validate-latitude-param, validate-offset, validate-lon-lat, validate-projected}
-use Rattle.projection.specs.Longitude.{normalize-longitude}
+use Rattle.refusals.specs.Refusals.{CONE-CONSTANT}
+use Rattle.projection.specs.Checks.{guard, validate-settings, validate-projected}
+use Rattle.projection.specs.Starts.{enter, entered}
 use Rattle.projection.specs.Iteration.{converge}
 use Rattle.projection.specs.Ends.{ensure-finite-xy, finish}
 use Rattle.projection.specs.declared.Answer.{Answer}
 use Rattle.projection.specs.declared.Answer.the-variants.{Pair, Refused}
-use Rattle.projection.specs.declared.Settled.{Settled}
-use Rattle.projection.specs.declared.Settled.the-variants as settled
+use Rattle.projection.specs.declared.Solution.{Solution}
+use Rattle.projection.specs.declared.Solution.the-variants as solution
 use Rattle.albers_equal_area.specs.declared.AlbersEqualArea.{AlbersEqualArea}
-use Rattle.albers_equal_area.specs.declared.Cone.{Cone}
 use Rattle.albers_equal_area.specs.declared.BuiltAlbersEqualArea.{BuiltAlbersEqualArea}
 use Rattle.albers_equal_area.specs.declared.BuiltAlbersEqualArea.the-variants as built
 
@@ -68,42 +67,46 @@ unfoldable pub cone-constant : Float → Float → Float → Float → Float →
 cone-constant lat1 lat2 m1 m2 q1 q2 = cond (abs (lat1 ⊖ lat2) ≺ ONE-PARALLEL) (sine lat1) ((m1 ⊗ m1 ⊖ m2 ⊗ m2) ⊘ (q2 ⊖ q1))
 
 -- C = m1² + n q1 (14-13)
-unfoldable pub cone : Float → Float → Float → Float → Float → Float → Cone
-cone a e e2 lat0 lat1 lat2 =
+unfoldable pub derived : Ellipsoid → Float → Float → Float → Float → Float → Float → AlbersEqualArea
+derived ellipsoid lon0 lat0 lat1 lat2 false-easting false-northing =
+    let e2 = e2 ellipsoid in
+    let e = root e2 in
     let m1 = m-func lat1 e2 in
     let q1 = q-func lat1 e e2 in
     let n = cone-constant lat1 lat2 m1 (m-func lat2 e2) q1 (q-func lat2 e e2) in
     let c = m1 ⊗ m1 ⊕ n ⊗ q1 in
-    record { n = n; c = c; rho0 = parallel-radius a c n (q-func lat0 e e2) }
+    record {
+      a = ellipsoid .a;
+      e = e;
+      e2 = e2;
+      lon0 = lon0;
+      n = n;
+      c = c;
+      rho0 = parallel-radius (ellipsoid .a) c n (q-func lat0 e e2);
+      «false_easting» = false-easting;
+      «false_northing» = false-northing;
+    }
 
 -- 15 where n is too small; a NaN passes
+unfoldable pub checked : AlbersEqualArea → BuiltAlbersEqualArea
+checked p = cond (abs (p .n) ≺ NO-CONE) (built.Refused CONE-CONSTANT) (built.Built p)
+
 unfoldable pub new : Ellipsoid → Float → Float → Float → Float → Float → Float → BuiltAlbersEqualArea
-new ellipsoid lon0 lat0 lat1 lat2 fe fn =
-    let e2 = e2 ellipsoid in
-    let e = root e2 in
-    let k = cone (ellipsoid .a) e e2 lat0 lat1 lat2 in
-    guard
-    (or-else (validate-angle lon0)
-    (or-else (validate-latitude-param lat0)
-    (or-else (validate-latitude-param lat1) (or-else (validate-latitude-param lat2)
-    (or-else (validate-offset fe FALSE-EASTING) (validate-offset fn FALSE-NORTHING))))))
-    built.Refused
-    (cond (abs (k .n) ≺ NO-CONE) (built.Refused CONE-CONSTANT)
-    (built.Built (record { a = ellipsoid .a; e = e; e2 = e2; lon0 = lon0; n = k .n; c = k .c; rho0 = k .rho0; «false_easting» = fe; «false_northing» = fn })))
+new ellipsoid lon0 lat0 lat1 lat2 false-easting false-northing =
+    guard (validate-settings lon0 lat0 lat1 lat2 false-easting false-northing) built.Refused
+    (checked (derived ellipsoid lon0 lat0 lat1 lat2 false-easting false-northing))
 
 -- ---- forward
 
--- x = ρ sin θ (14-1), y = ρ0 - ρ cos θ (14-2)
+-- θ = n (λ - λ0) (14-4), x = ρ sin θ (14-1), y = ρ0 - ρ cos θ (14-2)
 unfoldable pub projected : AlbersEqualArea → Float → Float → Answer
-projected p rho theta =
+projected p d-lon lat =
+    let rho = parallel-radius (p .a) (p .c) (p .n) (q-func lat (p .e) (p .e2)) in
+    let theta = p .n ⊗ d-lon in
     ensure-finite-xy (p .«false_easting» ⊕ rho ⊗ sine theta) (p .«false_northing» ⊕ p .rho0 ⊖ rho ⊗ cosine theta)
 
--- θ = n (λ - λ0) (14-4)
 unfoldable pub forward : AlbersEqualArea → Float → Float → Answer
-forward p lon lat =
-    let rho = parallel-radius (p .a) (p .c) (p .n) (q-func lat (p .e) (p .e2)) in
-    let theta = p .n ⊗ normalize-longitude (lon ⊖ p .lon0) in
-    guard (validate-lon-lat lon lat) Refused (projected p rho theta)
+forward p lon lat = entered (λ d-lon. projected p d-lon lat) (enter lon lat (p .lon0))
 
 -- ---- inverse
 
@@ -117,7 +120,7 @@ latitude-round q e e2 lat =
     ⊗ (q ⊘ (one ⊖ e2) ⊖ sin-lat ⊘ one-minus-e2sin2 ⊕ one ⊘ (two ⊗ e) ⊗ ln ((one ⊖ e-sin) ⊘ (one ⊕ e-sin)))
 
 -- The rounds start from arcsin (q / 2), as Snyder's do. The source has no rule like his for the q of a pole.
-unfoldable pub lat-from-q : Float → Float → Float → Settled
+unfoldable pub lat-from-q : Float → Float → Float → Solution
 lat-from-q q e e2 = converge (latitude-round q e e2) (arcsine (q ⊘ two)) STEPS TOLERANCE
 
 -- tan θ = x / (ρ0 - y) (14-11), with both signs turned where n is negative
@@ -131,9 +134,9 @@ q-of-offset p dx dy =
     (p .c ⊖ rho ⊗ rho ⊗ p .n ⊗ p .n ⊘ (p .a ⊗ p .a)) ⊘ p .n
 
 -- λ = λ0 + θ / n (14-9), 01's formula's longitude, once the rounds have ended
-unfoldable pub place : AlbersEqualArea → Float → Settled → Answer
-place p theta (settled.Found lat) = Pair (p .lon0 ⊕ theta ⊘ p .n) lat
-place p theta (settled.Refused number) = Refused number
+unfoldable pub place : AlbersEqualArea → Float → Solution → Answer
+place p theta (solution.Found lat) = Pair (p .lon0 ⊕ theta ⊘ p .n) lat
+place p theta (solution.Refused number) = Refused number
 
 unfoldable pub formula : AlbersEqualArea → Float → Float → Answer
 formula p x y =

@@ -5,19 +5,18 @@ use lib.Ieee.{Float, neg}
 use Rattle.float.specs.Operators.{_⊕_, _⊖_, _⊗_, _⊘_, _≺_, _≼_, _≈_}
 use Rattle.float.specs.Constants.{+0, one}
 use Rattle.float.specs.Sign.{abs}
-use Rattle.fixed.specs.Trigonometry.{sine, cosine, tangent}
+use Rattle.trigonometry.specs.Trigonometry.{sine, cosine, tangent}
 use Rattle.fixed.specs.Arctangent.{arcsine}
 use Rattle.ellipsoid.specs.Ellipsoid.{e2}
 use Rattle.ellipsoid.specs.declared.Ellipsoid.{Ellipsoid}
-use Rattle.projection.specs.Refusals.{FALSE-EASTING, FALSE-NORTHING}
-use Rattle.projection.specs.Checks.{or-else, guard, validate-angle, validate-latitude-param, validate-offset, validate-lon-lat, validate-projected}
-use Rattle.projection.specs.Longitude.{normalize-longitude}
-use Rattle.projection.specs.Meridian.{meridian-arc-coefficients, meridian-arc}
+use Rattle.meridian.specs.Meridian.{meridian-arc-coefficients, meridian-arc}
+use Rattle.projection.specs.Checks.{guard, validate-settings, validate-projected}
+use Rattle.projection.specs.Starts.{enter, entered}
 use Rattle.projection.specs.Ends.{ensure-finite-xy, finish}
 use Rattle.projection.specs.declared.Answer.{Answer}
 use Rattle.projection.specs.declared.Answer.the-variants.{Pair, Refused}
-use Rattle.projection.specs.declared.Settled.{Settled}
-use Rattle.projection.specs.declared.Settled.the-variants as settled
+use Rattle.projection.specs.declared.Solution.{Solution}
+use Rattle.projection.specs.declared.Solution.the-variants as solution
 use Rattle.american_polyconic.specs.Tolerances.{EQUATOR-TOL}
 use Rattle.american_polyconic.specs.Newton.{nu, latitude}
 use Rattle.american_polyconic.specs.declared.AmericanPolyconic.{AmericanPolyconic}
@@ -29,18 +28,31 @@ use Rattle.american_polyconic.specs.declared.BuiltAmericanPolyconic.the-
 unfoldable pub origin-arc : Float → Float → List Float → Float
 origin-arc e2 lat0 en = cond (e2 ≈ +0) (neg lat0) (meridian-arc lat0 (sine lat0) (cosine lat0) en)
 
-unfoldable pub built : Ellipsoid → Float → Float → Float → Float → List Float → BuiltAmericanPolyconic
+unfoldable pub derived : Ellipsoid → Float → Float → Float → Float → List Float → AmericanPolyconic
 unfolding origin-arc
-built ellipsoid lon0 lat0 fe fn en =
-    guard (or-else (validate-angle lon0) (or-else (validate-latitude-param lat0) (or-else (validate-offset fe FALSE-EASTING) (validate-offset fn FALSE-NORTHING)))) polyconic.Refused
-    (polyconic.Built (record { a = ellipsoid .a; e2 = e2 ellipsoid; lon0 = lon0; lat0 = lat0; «false_easting» = fe; «false_northing» = fn; ml0 = origin-arc (e2 ellipsoid) lat0 en }))
+derived ellipsoid lon0 lat0 false-easting false-northing en =
+    record {
+      a = ellipsoid .a;
+      e2 = e2 ellipsoid;
+      lon0 = lon0;
+      lat0 = lat0;
+      «false_easting» = false-easting;
+      «false_northing» = false-northing;
+      ml0 = origin-arc (e2 ellipsoid) lat0 en;
+    }
+
+-- 6 to 10, or what is derived
+unfoldable pub built : Ellipsoid → Float → Float → Float → Float → List Float → BuiltAmericanPolyconic
+unfolding derived
+built ellipsoid lon0 lat0 false-easting false-northing en =
+    guard (validate-settings lon0 lat0 +0 +0 false-easting false-northing) polyconic.Refused
+    (polyconic.Built (derived ellipsoid lon0 lat0 false-easting false-northing en))
 
 -- the meridian numbers stand beside what is built
 unfoldable pub new : Ellipsoid → Float → Float → Float → Float → NewAmericanPolyconic
-unfolding built
-new ellipsoid lon0 lat0 fe fn =
+new ellipsoid lon0 lat0 false-easting false-northing =
     let en = meridian-arc-coefficients (e2 ellipsoid) in
-    record { built = built ellipsoid lon0 lat0 fe fn en; en = en }
+    record { built = built ellipsoid lon0 lat0 false-easting false-northing en; en = en }
 
 -- from units of a to the map
 unfoldable pub scaled : AmericanPolyconic → Float → Float → Answer
@@ -49,10 +61,10 @@ scaled p x y = ensure-finite-xy (p .«false_easting» ⊕ p .a ⊗ x) (p .«fals
 -- y = -φ0 (Snyder 18-1) on the equator, 18-2 to 18-4 off it
 unfoldable pub sphere-forward : AmericanPolyconic → Float → Float → Answer
 unfolding scaled
-sphere-forward p lam lat =
+sphere-forward p d-lon lat =
     let cot = one ⊘ tangent lat in
-    let e = lam ⊗ sine lat in
-    cond (abs lat ≼ EQUATOR-TOL) (scaled p lam (p .ml0)) (scaled p (sine e ⊗ cot) (lat ⊖ p .lat0 ⊕ cot ⊗ (one ⊖ cosine e)))
+    let e = d-lon ⊗ sine lat in
+    cond (abs lat ≼ EQUATOR-TOL) (scaled p d-lon (p .ml0)) (scaled p (sine e ⊗ cot) (lat ⊖ p .lat0 ⊕ cot ⊗ (one ⊖ cosine e)))
 
 -- N cot φ over a, the radius of the parallel's arc; the source has 0 where the cosine is as small as the equator's tolerance
 unfoldable pub cone-radius : AmericanPolyconic → Float → Float → Float
@@ -61,17 +73,19 @@ cone-radius p sp cp = cond (EQUATOR-TOL ≺ abs cp) (cp ⊘ nu (p .e2) sp ⊘ sp
 -- y = -M0 on the equator, Snyder 18-2, 18-12 and 18-13 off it
 unfoldable pub ellipsoid-forward : AmericanPolyconic → List Float → Float → Float → Answer
 unfolding scaled cone-radius
-ellipsoid-forward p en lam lat =
+ellipsoid-forward p en d-lon lat =
     let ms = cone-radius p (sine lat) (cosine lat) in
-    let e = lam ⊗ sine lat in
+    let e = d-lon ⊗ sine lat in
     let ml = meridian-arc lat (sine lat) (cosine lat) en in
-    cond (abs lat ≼ EQUATOR-TOL) (scaled p lam (neg (p .ml0))) (scaled p (ms ⊗ sine e) (ml ⊖ p .ml0 ⊕ ms ⊗ (one ⊖ cosine e)))
+    cond (abs lat ≼ EQUATOR-TOL) (scaled p d-lon (neg (p .ml0))) (scaled p (ms ⊗ sine e) (ml ⊖ p .ml0 ⊕ ms ⊗ (one ⊖ cosine e)))
+
+unfoldable pub projected : AmericanPolyconic → List Float → Float → Float → Answer
+unfolding sphere-forward ellipsoid-forward
+projected p en d-lon lat = cond (p .e2 ≈ +0) (sphere-forward p d-lon lat) (ellipsoid-forward p en d-lon lat)
 
 unfoldable pub forward : AmericanPolyconic → List Float → Float → Float → Answer
-unfolding sphere-forward ellipsoid-forward
-forward p en lon lat =
-    let lam = normalize-longitude (lon ⊖ p .lon0) in
-    guard (validate-lon-lat lon lat) Refused (cond (p .e2 ≈ +0) (sphere-forward p lam lat) (ellipsoid-forward p en lam lat))
+unfolding projected
+forward p en lon lat = entered (λ d-lon. projected p en d-lon lat) (enter lon lat (p .lon0))
 
 -- A: the northing over a from the equator (Snyder 18-7; 18-18)
 unfoldable pub ordinate : AmericanPolyconic → Float → Float
@@ -82,10 +96,10 @@ unfoldable pub sin-e : AmericanPolyconic → Float → Float → Float → Float
 sin-e p xs tp sp = cond (p .e2 ≈ +0) (xs ⊗ tp) (xs ⊗ tp ⊗ nu (p .e2) sp)
 
 -- E is the longitude from lon0 times sin φ (18-2)
-unfoldable pub at-latitude : AmericanPolyconic → Float → Settled → Answer
+unfoldable pub at-latitude : AmericanPolyconic → Float → Solution → Answer
 unfolding sin-e
-at-latitude p xs (settled.Found phi) = Pair (p .lon0 ⊕ arcsine (sin-e p xs (tangent phi) (sine phi)) ⊘ sine phi) phi
-at-latitude p xs (settled.Refused n) = Refused n
+at-latitude p xs (solution.Found phi) = Pair (p .lon0 ⊕ arcsine (sin-e p xs (tangent phi) (sine phi)) ⊘ sine phi) phi
+at-latitude p xs (solution.Refused n) = Refused n
 
 -- The place at the easting xs over a and at ys = A: on the equator Snyder 7-5 and 7-12, else with B = xs² + A² (18-8, 18-19), which the source sums in the other order on the ellipsoid, to the same f64.
 unfoldable pub place : AmericanPolyconic → List Float → Float → Float → Answer

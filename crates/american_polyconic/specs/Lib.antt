@@ -1,3 +1,4 @@
 pub mod Tolerances
 pub mod Newton
 pub mod AmericanPolyconic
+pub mod Opened

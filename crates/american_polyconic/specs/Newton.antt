@@ -6,14 +6,14 @@ use Rattle.float.specs.Operators.{_⊕_, _⊖_, _⊗_, _⊘_, _≺_, _≼_, _�
 use Rattle.float.specs.Constants.{+0, one, two, half}
 use Rattle.float.specs.Sign.{abs}
 use Rattle.root.specs.Root.{root}
-use Rattle.fixed.specs.Trigonometry.{sine, cosine, tangent}
-use Rattle.projection.specs.Refusals.{STEP-AT-POLE}
+use Rattle.trigonometry.specs.Trigonometry.{sine, cosine, tangent}
+use Rattle.refusals.specs.Refusals.{STEP-AT-POLE}
 use Rattle.projection.specs.Iteration.{iterate}
-use Rattle.projection.specs.Meridian.{meridian-arc}
+use Rattle.meridian.specs.Meridian.{meridian-arc}
 use Rattle.projection.specs.declared.Step.{Step}
 use Rattle.projection.specs.declared.Step.the-variants.{More, Done, Stop}
-use Rattle.projection.specs.declared.Settled.{Settled}
-use Rattle.american_polyconic.specs.Tolerances.{NEWTON-TOL, NEWTON-ITERATIONS}
+use Rattle.projection.specs.declared.Solution.{Solution}
+use Rattle.american_polyconic.specs.Tolerances.{TOLERANCE, STEPS}
 
 -- a over the radius of curvature in the prime vertical (Snyder 4-20)
 unfoldable pub nu : Float → Float → Float
@@ -21,7 +21,7 @@ nu e2 sp = root (one ⊖ e2 ⊗ sp ⊗ sp)
 
 -- done after a step of at most the tolerance
 unfoldable pub moved : Float → Float → Step
-moved dphi next = cond (abs dphi ≼ NEWTON-TOL) (Done next) (More next)
+moved dphi next = cond (abs dphi ≼ TOLERANCE) (Done next) (More next)
 
 -- Snyder 18-9
 unfoldable pub sphere-step : Float → Float → Float → Step
@@ -51,12 +51,12 @@ unfoldable pub ellipsoid-step : Float → List Float → Float → Float → Flo
 unfolding moved correction
 ellipsoid-step e2 en ys b phi =
     let dphi = correction e2 en ys b phi (sine phi) (cosine phi) in
-    cond (abs (cosine phi) ≺ NEWTON-TOL) (Stop STEP-AT-POLE) (moved dphi (phi ⊕ dphi))
+    cond (abs (cosine phi) ≺ TOLERANCE) (Stop STEP-AT-POLE) (moved dphi (phi ⊕ dphi))
 
 unfoldable pub step : Float → List Float → Float → Float → Float → Step
 step e2 en ys b phi = cond (e2 ≈ +0) (sphere-step ys b phi) (ellipsoid-step e2 en ys b phi)
 
 -- From Snyder's first guess, A. After the last step it is 22, even where the next cosine would give 21.
-unfoldable pub latitude : Float → List Float → Float → Float → Settled
+unfoldable pub latitude : Float → List Float → Float → Float → Solution
 unfolding step
-latitude e2 en ys b = iterate (step e2 en ys b) NEWTON-ITERATIONS ys
+latitude e2 en ys b = iterate (step e2 en ys b) STEPS ys

@@ -11,12 +11,12 @@ abbrev pub EQUATOR-TOL : Float
 EQUATOR-TOL = f64 0x3ddb7cdfd9d7bdbb
 
 -- the iteration stops at a step of at most this size, and refuses a cosine below it
-abbrev pub NEWTON-TOL : Float
-NEWTON-TOL = f64 0x3d719799812dea11
+abbrev pub TOLERANCE : Float
+TOLERANCE = f64 0x3d719799812dea11
 
-abbrev pub NEWTON-ITERATIONS : ℕ
-NEWTON-ITERATIONS = 20
+abbrev pub STEPS : ℕ
+STEPS = 20
 
-pub constants : (EQUATOR-TOL ∷ NEWTON-TOL ∷ []) ≡ (ratio 1 (10 ^ 10) ∷ ratio 1 (10 ^ 12) ∷ [])
+pub constants : (EQUATOR-TOL ∷ TOLERANCE ∷ []) ≡ (ratio 1 (10 ^ 10) ∷ ratio 1 (10 ^ 12) ∷ [])
 unfolding ofBits round
 constants = refl

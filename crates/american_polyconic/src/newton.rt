@@ -2,15 +2,15 @@
 ghost use mathlib.Core.Path.{_≡_};
 ghost use Rattle.american_polyconic.specs.Newton.{nu, moved, sphere-step, fraction, correction, ellipsoid-step, step, latitude};
 use crate::AmericanPolyconic;
-use fixed::sin_cos;
-use fixed::tan;
 use float::abs;
-use projection::Settled;
+use meridian::meridian_arc;
+use projection::Solution;
 use projection::Step;
-use projection::meridian_arc;
-use projection::refusals::STEP_AT_POLE;
-use projection::refusals::STEPS_USED_UP;
+use refusals::STEP_AT_POLE;
+use refusals::STEPS_USED_UP;
 use root::root;
+use trigonometry::sin_cos;
+use trigonometry::tan;
 
 // a over the radius of curvature in the prime vertical.
 pub(crate) fn nu(e2: f64, sp: f64) -> f64
@@ -23,7 +23,7 @@ pub(crate) fn nu(e2: f64, sp: f64) -> f64
 fn moved(dphi: f64, next: f64) -> Step
     ensures { λ r. ⌜ r ≡ moved dphi next ⌝ }
 {
-    if abs(dphi) <= AmericanPolyconic::NEWTON_TOL {
+    if abs(dphi) <= AmericanPolyconic::TOLERANCE {
         Step::Done(next)
     } else {
         Step::More(next)
@@ -62,7 +62,7 @@ fn ellipsoid_step(e2: f64, en: [f64; 13], ys: f64, b: f64, phi: f64) -> Step
     ensures { λ r. ⌜ r ≡ ellipsoid-step e2 en ys b phi ⌝ }
 {
     let sc = sin_cos(phi);
-    if abs(sc.cos) < AmericanPolyconic::NEWTON_TOL {
+    if abs(sc.cos) < AmericanPolyconic::TOLERANCE {
         Step::Stop(STEP_AT_POLE)
     } else {
         let dphi = correction(e2, en, ys, b, phi, sc.sin, sc.cos);
@@ -80,17 +80,17 @@ fn step(e2: f64, en: [f64; 13], ys: f64, b: f64, phi: f64) -> Step
     }
 }
 
-pub(crate) fn latitude(e2: f64, en: [f64; 13], ys: f64, b: f64) -> Settled
+pub(crate) fn latitude(e2: f64, en: [f64; 13], ys: f64, b: f64) -> Solution
     ensures { λ r. ⌜ r ≡ latitude e2 en ys b ⌝ }
 {
     let mut phi = ys;
-    for _ in 0..AmericanPolyconic::NEWTON_ITERATIONS {
+    for _ in 0..AmericanPolyconic::STEPS {
         let s = step(e2, en, ys, b, phi);
         match s {
-            Step::Done(found) => return Settled::Found(found),
-            Step::Stop(n) => return Settled::Refused(n),
+            Step::Done(found) => return Solution::Found(found),
+            Step::Stop(n) => return Solution::Refused(n),
             Step::More(next) => phi = next,
         }
     }
-    Settled::Refused(STEPS_USED_UP)
+    Solution::Refused(STEPS_USED_UP)
 }

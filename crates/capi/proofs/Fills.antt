@@ -8,7 +8,7 @@ use lib.ListN.{length, getD, drop, set, length-set, length-map, drop-of-length-l
 use lib.Seq.{drop-cons, sets, sets-eq}
 use lib.Ieee.{Float}
 use Rattle.projection.specs.declared.Answer.{Answer}
-use Rattle.projection.specs.Answer.{number, first-result, second-result}
+use Rattle.projection.specs.Results.{number, first-result, second-result}
 use Rattle.capi.specs.Columns.{each}
 
 module _ {A : Type 0} (part : Answer → A) (call : Float → Float → Answer) (us vs : List Float) (l : List A) (i : ℕ) where

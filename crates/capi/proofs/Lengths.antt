@@ -8,7 +8,7 @@ use lib.Dec.{eqb}
 use lib.ListN.{length}
 use lib.Ieee.{Float}
 use Rattle.projection.specs.declared.Answer.{Answer}
-use Rattle.projection.specs.Answer.{number, first-result, second-result}
+use Rattle.projection.specs.Results.{number, first-result, second-result}
 use Rattle.capi.specs.Columns.{each, equal-lengths, Column}
 
 both : (a b : Bool) → (a && b) ≡ true → (a ≡ true) × (b ≡ true)

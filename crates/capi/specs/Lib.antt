@@ -1,4 +1,3 @@
 pub mod Answers
 pub mod Columns
-pub mod Ellipsoids
 pub mod Points

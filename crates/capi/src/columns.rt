@@ -4,24 +4,23 @@ ghost use mathlib.Core.List.{map};
 ghost use Prim.Native.Nat.{ℕ};
 ghost use lib.ListN.{length};
 ghost use lib.Ieee.{Float};
-ghost use Rattle.projection.specs.Answer.{number, first-result, second-result};
+ghost use Rattle.projection.specs.Results.{number, first-result, second-result};
 ghost use Rattle.kinds.specs.Kinds.{answer};
 ghost use Rattle.capi.specs.Points.{settings, project};
 ghost use Rattle.capi.specs.Columns.{each, Column};
-use crate::answers::first_result;
-use crate::answers::number;
-use crate::answers::second_result;
 use crate::points::build;
-use kinds::NewProjection;
-use kinds::Settings;
-use kinds::Way;
-
-// Columns of unequal lengths: nothing is read or written. No refusal of document 01 has this number.
-const UNEQUAL: u8 = 255;
+use kinds::Projection;
+use letters::Settings;
+use letters::Way;
+use letters::way_of;
+use projection::first_result;
+use projection::number;
+use projection::second_result;
+use refusals::UNEQUAL_LENGTHS;
 
 fn fill(
     way: Way,
-    new: NewProjection,
+    projection: Projection,
     u: &[f64],
     v: &[f64],
     p: &mut [f64],
@@ -29,11 +28,11 @@ fn fill(
     numbers: &mut [u8],
 )
     requires { ⌜ (length (now v) ≡ length (now u)) × (length (now p) ≡ length (now u)) × (length (now q) ≡ length (now u)) × (length (now numbers) ≡ length (now u)) ⌝ }
-    ensures { λ _. ⌜ (now (p .exit) ≡ map first-result (each (answer way new) (now (u .entry)) (now (v .entry)))) × (now (q .exit) ≡ map second-result (each (answer way new) (now (u .entry)) (now (v .entry)))) × (now (numbers .exit) ≡ map number (each (answer way new) (now (u .entry)) (now (v .entry)))) ⌝ }
+    ensures { λ _. ⌜ (now (p .exit) ≡ map first-result (each (answer way projection) (now (u .entry)) (now (v .entry)))) × (now (q .exit) ≡ map second-result (each (answer way projection) (now (u .entry)) (now (v .entry)))) × (now (numbers .exit) ≡ map number (each (answer way projection) (now (u .entry)) (now (v .entry)))) ⌝ }
 {
     let mut i = 0;
     while i < u.len() {
-        let answer = kinds::answer(way, new, u[i], v[i]);
+        let answer = kinds::answer(way, projection, u[i], v[i]);
         p[i] = first_result(answer);
         q[i] = second_result(answer);
         numbers[i] = number(answer);
@@ -72,10 +71,10 @@ pub extern "C" fn lenthuc_column(
             false_easting,
             false_northing,
         };
-        let new = build(way, kind, a, f, settings);
-        fill(kinds::way_of(way), new, u, v, p, q, numbers);
+        let projection = build(way, kind, a, f, settings);
+        fill(way_of(way), projection, u, v, p, q, numbers);
         0
     } else {
-        UNEQUAL
+        UNEQUAL_LENGTHS
     }
 }

@@ -1,31 +1,26 @@
 // One point by the letters of a way and a kind, as a line of a sheet asks for it.
 ghost use mathlib.Core.Path.{_≡_};
 ghost use Rattle.capi.specs.Answers.{Says};
-ghost use Rattle.capi.specs.Points.{settings, build, built-number, project};
-use crate::answers::first_result;
-use crate::answers::number;
-use crate::answers::second_result;
-use kinds::BuiltKind;
-use kinds::LINE_FORM;
-use kinds::NewProjection;
-use kinds::Settings;
+ghost use Rattle.capi.specs.Points.{settings, build, new-number, project};
+use kinds::Projection;
+use kinds::built_number;
+use letters::Settings;
+use letters::is_kind;
+use letters::is_way;
+use letters::kind_of;
+use letters::way_of;
+use projection::first_result;
+use projection::number;
+use projection::second_result;
+use refusals::LINE_FORM;
 
-pub(crate) fn build(way: u8, kind: u8, a: f64, f: f64, settings: Settings) -> NewProjection
+pub(crate) fn build(way: u8, kind: u8, a: f64, f: f64, settings: Settings) -> Projection
     ensures { λ r. ⌜ r ≡ build way kind a f settings ⌝ }
 {
-    if kinds::is_way(way) & kinds::is_kind(kind) {
-        kinds::build(kinds::method_of(kind), a, f, settings)
+    if is_way(way) & is_kind(kind) {
+        kinds::build(kind_of(kind), a, f, settings)
     } else {
         kinds::refused(LINE_FORM)
-    }
-}
-
-fn built_number(built: BuiltKind) -> u8
-    ensures { λ r. ⌜ r ≡ built-number built ⌝ }
-{
-    match built {
-        BuiltKind::Built(_) => 0,
-        BuiltKind::Refused(n) => n,
     }
 }
 
@@ -42,7 +37,7 @@ pub extern "C" fn lenthuc_new(
     false_easting: f64,
     false_northing: f64,
 ) -> u8
-    ensures { λ r. ⌜ r ≡ built-number (build 70 kind a f (settings lon0 lat0 lat1 lat2 «false_easting» «false_northing») .built) ⌝ }
+    ensures { λ r. ⌜ r ≡ new-number kind a f (settings lon0 lat0 lat1 lat2 «false_easting» «false_northing») ⌝ }
 {
     let settings = Settings {
         lon0,
@@ -52,9 +47,7 @@ pub extern "C" fn lenthuc_new(
         false_easting,
         false_northing,
     };
-    let new = build(b'F', kind, a, f, settings);
-    let built = new.built;
-    built_number(built)
+    built_number(build(b'F', kind, a, f, settings))
 }
 
 // Gives the number, and puts the two results where p and q refer to.
@@ -85,8 +78,8 @@ pub extern "C" fn lenthuc_project(
         false_easting,
         false_northing,
     };
-    let new = build(way, kind, a, f, settings);
-    let answer = kinds::answer(kinds::way_of(way), new, u, v);
+    let projection = build(way, kind, a, f, settings);
+    let answer = kinds::answer(way_of(way), projection, u, v);
     *p = first_result(answer);
     *q = second_result(answer);
     number(answer)

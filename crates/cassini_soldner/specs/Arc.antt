@@ -2,7 +2,7 @@
 use lib.Ieee.{Float}
 use Rattle.float.specs.Operators.{_⊕_, _⊖_, _⊗_, _⊘_}
 use Rattle.float.specs.Constants.{one, two, three, four}
-use Rattle.fixed.specs.Trigonometry.{sine}
+use Rattle.trigonometry.specs.Trigonometry.{sine}
 use Rattle.cassini_soldner.specs.Constants.{c5, c6, c8, c15, c16, c21, c27, c32, c35, c45, c55, c64, c96, c151, c256, c512, c1024, c1097, c3072}
 use Rattle.cassini_soldner.specs.declared.arc.ArcCoefficients.{ArcCoefficients}
 use Rattle.cassini_soldner.specs.declared.arc.FootpointCoefficients.{FootpointCoefficients}

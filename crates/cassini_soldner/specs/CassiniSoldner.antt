@@ -5,14 +5,13 @@ use Rattle.float.specs.Operators.{_⊕_, _⊖_, _⊗_, _⊘_, _≺_}
 use Rattle.float.specs.Constants.{+0, one, FRAC-PI-2}
 use Rattle.float.specs.Sign.{abs}
 use Rattle.root.specs.Root.{root}
-use Rattle.fixed.specs.Trigonometry.{sine, cosine, tangent}
+use Rattle.trigonometry.specs.Trigonometry.{sine, cosine, tangent}
 use Rattle.fixed.specs.Powers.{powf-3-2}
 use Rattle.ellipsoid.specs.Ellipsoid.{e2, ep2}
 use Rattle.ellipsoid.specs.declared.Ellipsoid.{Ellipsoid}
-use Rattle.projection.specs.Refusals.{FALSE-EASTING, FALSE-NORTHING}
-use Rattle.projection.specs.Checks.{or-else, guard, validate-angle, validate-latitude-param, validate-offset, validate-lon-lat, validate-projected}
-use Rattle.projection.specs.Longitude.{normalize-longitude}
-use Rattle.projection.specs.Meridian.{third-flattening}
+use Rattle.meridian.specs.Meridian.{third-flattening}
+use Rattle.projection.specs.Checks.{guard, validate-settings, validate-projected}
+use Rattle.projection.specs.Starts.{enter, entered}
 use Rattle.projection.specs.Ends.{ensure-finite-xy, finish}
 use Rattle.projection.specs.declared.Answer.{Answer}
 use Rattle.projection.specs.declared.Answer.the-variants.{Pair, Refused}
@@ -24,8 +23,8 @@ use Rattle.cassini_soldner.specs.declared.BuiltCassiniSoldner.{BuiltCass
 use Rattle.cassini_soldner.specs.declared.BuiltCassiniSoldner.the-variants as cassini
 
 -- M₀ is the arc to lat0 (Snyder 3-21). What μ divides by (7-19) is the arc's first coefficient; e₁ (3-24) is the third flattening.
-unfoldable pub built : Ellipsoid → Float → Float → Float → Float → CassiniSoldner
-built ellipsoid lon0 lat0 fe fn =
+unfoldable pub derived : Ellipsoid → Float → Float → Float → Float → CassiniSoldner
+derived ellipsoid lon0 lat0 false-easting false-northing =
     let a = ellipsoid .a in
     let arc = arc-coefficients a (e2 ellipsoid) in
     let back = footpoint-coefficients (third-flattening (e2 ellipsoid)) in
@@ -35,8 +34,8 @@ built ellipsoid lon0 lat0 fe fn =
       ep2 = ep2 ellipsoid;
       «a_one_minus_e2» = a ⊗ (one ⊖ e2 ellipsoid);
       lon0 = lon0;
-      «false_easting» = fe;
-      «false_northing» = fn;
+      «false_easting» = false-easting;
+      «false_northing» = false-northing;
       m0 = meridional-arc lat0 (arc .coeff0) (arc .coeff2) (arc .coeff4) (arc .coeff6);
       «meridional_coeff0» = arc .coeff0;
       «meridional_coeff2» = arc .coeff2;
@@ -49,14 +48,11 @@ built ellipsoid lon0 lat0 fe fn =
       «e1_coeff8» = back .coeff8;
     }
 
--- 6 to 10 in their order
+-- 6 to 10, or what is derived
 unfoldable pub new : Ellipsoid → Float → Float → Float → Float → BuiltCassiniSoldner
-new ellipsoid lon0 lat0 fe fn =
-    guard
-    (or-else (validate-angle lon0)
-    (or-else (validate-latitude-param lat0) (or-else (validate-offset fe FALSE-EASTING) (validate-offset fn FALSE-NORTHING))))
-    cassini.Refused
-    (cassini.Built (built ellipsoid lon0 lat0 fe fn))
+new ellipsoid lon0 lat0 false-easting false-northing =
+    guard (validate-settings lon0 lat0 +0 +0 false-easting false-northing) cassini.Refused
+    (cassini.Built (derived ellipsoid lon0 lat0 false-easting false-northing))
 
 -- Snyder 13-7 and 13-8, with N (4-20), T (8-13), C (8-14), A (8-15)
 unfoldable pub projected : CassiniSoldner → Float → Float → Answer
@@ -70,7 +66,7 @@ projected p d-lon lat =
     (p .«false_northing» ⊕ m ⊖ p .m0 ⊕ n-val ⊗ tangent lat ⊗ northing-series a-coeff t c)
 
 unfoldable pub forward : CassiniSoldner → Float → Float → Answer
-forward p lon lat = guard (validate-lon-lat lon lat) Refused (projected p (normalize-longitude (lon ⊖ p .lon0)) lat)
+forward p lon lat = entered (λ d-lon. projected p d-lon lat) (enter lon lat (p .lon0))
 
 -- Snyder 13-10 and 13-11, with N₁ (8-23), R₁ (8-24), T₁ (8-22), D (13-13)
 unfoldable pub place : CassiniSoldner → Float → Float → Answer

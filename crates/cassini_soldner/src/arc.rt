@@ -1,7 +1,7 @@
 // The arc of the meridian by its own four-coefficient series, and the series back to the latitude.
 ghost use mathlib.Core.Path.{_≡_};
 ghost use Rattle.cassini_soldner.specs.Arc.{arc-coefficients, meridional-arc, footpoint-coefficients, footpoint-latitude};
-use fixed::sin;
+use trigonometry::sin;
 
 pub struct ArcCoefficients {
     pub coeff0: f64,

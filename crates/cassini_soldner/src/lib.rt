@@ -1,7 +1,7 @@
 // Cassini-Soldner, EPSG method 9806: the source's cassini_soldner.rs.
 ghost use mathlib.Core.Path.{_≡_};
 ghost use Rattle.projection.specs.OnTheMap.{OnTheMap};
-ghost use Rattle.cassini_soldner.specs.CassiniSoldner.{new, built, forward, projected, from-footpoint, formula, inverse};
+ghost use Rattle.cassini_soldner.specs.CassiniSoldner.{new, derived, forward, projected, from-footpoint, formula, inverse};
 
 mod arc;
 mod series;
@@ -12,27 +12,22 @@ use arc::footpoint_latitude;
 use arc::meridional_arc;
 use ellipsoid::Ellipsoid;
 use fixed::powf_3_2;
-use fixed::sin_cos;
 use float::FRAC_PI_2;
 use float::abs;
 use float::pick;
 use projection::Answer;
+use projection::Entrance;
 use projection::ensure_finite_xy;
+use projection::enter;
 use projection::finish;
-use projection::normalize_longitude;
-use projection::or_else;
-use projection::refusals::FALSE_EASTING;
-use projection::refusals::FALSE_NORTHING;
-use projection::validate_angle;
-use projection::validate_latitude_param;
-use projection::validate_lon_lat;
-use projection::validate_offset;
 use projection::validate_projected;
+use projection::validate_settings;
 use root::root;
 use series::easting_series;
 use series::latitude_series;
 use series::longitude_series;
 use series::northing_series;
+use trigonometry::sin_cos;
 
 pub struct CassiniSoldner {
     pub a: f64,
@@ -72,32 +67,29 @@ impl CassiniSoldner {
     ) -> BuiltCassiniSoldner
         ensures { λ r. ⌜ r ≡ new ellipsoid lon0 lat0 «false_easting» «false_northing» ⌝ }
     {
-        let fault = or_else(
-            validate_angle(lon0),
-            or_else(
-                validate_latitude_param(lat0),
-                or_else(
-                    validate_offset(false_easting, FALSE_EASTING),
-                    validate_offset(false_northing, FALSE_NORTHING),
-                ),
-            ),
-        );
+        let fault = validate_settings(lon0, lat0, 0.0, 0.0, false_easting, false_northing);
         if fault == 0 {
-            let built = Self::built(ellipsoid, lon0, lat0, false_easting, false_northing);
-            BuiltCassiniSoldner::Built(built)
+            BuiltCassiniSoldner::Built(Self::derived(
+                ellipsoid,
+                lon0,
+                lat0,
+                false_easting,
+                false_northing,
+            ))
         } else {
             BuiltCassiniSoldner::Refused(fault)
         }
     }
 
-    fn built(
+    // The settings and the numbers made of them.
+    fn derived(
         ellipsoid: Ellipsoid,
         lon0: f64,
         lat0: f64,
         false_easting: f64,
         false_northing: f64,
     ) -> CassiniSoldner
-        ensures { λ r. ⌜ r ≡ built ellipsoid lon0 lat0 «false_easting» «false_northing» ⌝ }
+        ensures { λ r. ⌜ r ≡ derived ellipsoid lon0 lat0 «false_easting» «false_northing» ⌝ }
     {
         let a = ellipsoid.a;
         let e2 = ellipsoid.e2();
@@ -129,11 +121,9 @@ impl CassiniSoldner {
     pub fn forward(self, lon: f64, lat: f64) -> Answer
         ensures { λ r. ⌜ r ≡ forward self lon lat ⌝ }
     {
-        let fault = validate_lon_lat(lon, lat);
-        if fault == 0 {
-            self.projected(normalize_longitude(lon - self.lon0), lat)
-        } else {
-            Answer::Refused(fault)
+        match enter(lon, lat, self.lon0) {
+            Entrance::Passed(d_lon) => self.projected(d_lon, lat),
+            Entrance::Refused(n) => Answer::Refused(n),
         }
     }
 

@@ -5,9 +5,9 @@ use lib.Ieee.Scale.{finite}
 use Rattle.float.specs.Operators.{_⊖_, _⊗_, _⊘_, _≺_, _≼_, _≈_}
 use Rattle.float.specs.Constants.{+0, one, two}
 use Rattle.root.specs.Root.{root}
-use Rattle.fixed.specs.Trigonometry.{sine}
+use Rattle.trigonometry.specs.Trigonometry.{sine}
 use Rattle.fixed.specs.Powers.{powf-3-2}
-use Rattle.ellipsoid.specs.Refusals.{INVERSE-FLATTENING, SEMI-MAJOR-AXIS, FLATTENING}
+use Rattle.refusals.specs.Refusals.{INVERSE-FLATTENING, SEMI-MAJOR-AXIS, FLATTENING}
 use Rattle.ellipsoid.specs.declared.Ellipsoid.{Ellipsoid}
 use Rattle.ellipsoid.specs.declared.BuiltEllipsoid.{BuiltEllipsoid}
 use Rattle.ellipsoid.specs.declared.BuiltEllipsoid.the-variants.{Built, Refused}

@@ -1,4 +1,5 @@
-pub mod Refusals
 pub mod Ellipsoid
+pub mod Results
 pub mod Names
 pub mod Units
+pub mod Opened

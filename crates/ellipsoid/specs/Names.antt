@@ -28,8 +28,8 @@ named Wgs84Sphere = by-bits 0x41584dafcb958106 0
 abbrev by-decimals : Float → Float → Ellipsoid
 by-decimals a rf = record { a = a; f = one ⊘ rf }
 
-abbrev sphere : Float → Ellipsoid
-sphere a = record { a = a; f = +0 }
+abbrev of-radius : Float → Ellipsoid
+of-radius a = record { a = a; f = +0 }
 
 pub named-are : (named Wgs84 ∷ named Grs80 ∷ named Clarke1866 ∷ named Intl1924 ∷ named Bessel1841 ∷ named Krassowsky ∷ named Airy1830 ∷ named UnitSphere ∷ named Wgs84Sphere ∷ [])
     ≡ (by-decimals (ratio 6378137 1) (ratio 298257223563 (10 ^ 9))
@@ -39,8 +39,8 @@ pub named-are : (named Wgs84 ∷ named Grs80 ∷ named Clarke1866 ∷ named Intl
     ∷ by-decimals (ratio 6377397155 (10 ^ 3)) (ratio 2991528128 (10 ^ 7))
     ∷ by-decimals (ratio 6378245 1) (ratio 2983 (10 ^ 1))
     ∷ by-decimals (ratio 6377563396 (10 ^ 3)) (ratio 2993249646 (10 ^ 7))
-    ∷ sphere (ratio 1 1)
-    ∷ sphere (ratio 6371007181 (10 ^ 3))
+    ∷ of-radius (ratio 1 1)
+    ∷ of-radius (ratio 6371007181 (10 ^ 3))
     ∷ [])
 unfolding named ofBits round div
 named-are = refl

@@ -3,11 +3,11 @@ ghost use mathlib.Core.Path.{_≡_};
 ghost use Rattle.ellipsoid.specs.Ellipsoid.{from-a-rf, from-a-f, sphere, inverse-flattening, b, e2, e, n, ep2, n-radius, m-radius};
 
 mod names;
-mod refusals;
+mod results;
+mod sizes;
 mod units;
 
 use fixed::powf_3_2;
-use fixed::sin;
 use float::is_finite;
 pub use names::AIRY1830;
 pub use names::BESSEL1841;
@@ -23,7 +23,10 @@ pub use names::named;
 use refusals::FLATTENING;
 use refusals::INVERSE_FLATTENING;
 use refusals::SEMI_MAJOR_AXIS;
+pub use results::built_flattening;
+pub use results::built_number;
 use root::root;
+use trigonometry::sin;
 pub use units::deg_to_rad;
 pub use units::rad_to_deg;
 
@@ -70,18 +73,6 @@ impl Ellipsoid {
         ensures { λ r. ⌜ r ≡ sphere radius ⌝ }
     {
         Self::from_a_f(radius, 0.0)
-    }
-
-    pub fn semi_major_axis(self) -> f64
-        ensures { λ r. ⌜ r ≡ self .a ⌝ }
-    {
-        self.a
-    }
-
-    pub fn flattening(self) -> f64
-        ensures { λ r. ⌜ r ≡ self .f ⌝ }
-    {
-        self.f
     }
 
     // 0 for a sphere.

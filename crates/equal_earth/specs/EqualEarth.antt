@@ -9,20 +9,19 @@ use Rattle.float.specs.Operators.{_⊕_, _⊖_, _⊗_, _⊘_, _≈_, f64}
 use Rattle.float.specs.Constants.{+0, half, one, two, three, FRAC-PI-2, ratio}
 use Rattle.float.specs.Limits.{clamp}
 use Rattle.root.specs.Root.{root}
-use Rattle.fixed.specs.Trigonometry.{sine, cosine}
+use Rattle.trigonometry.specs.Trigonometry.{sine, cosine}
 use Rattle.fixed.specs.Arctangent.{arcsine}
 use Rattle.ellipsoid.specs.Ellipsoid.{e2}
 use Rattle.ellipsoid.specs.declared.Ellipsoid.{Ellipsoid}
-use Rattle.projection.specs.Refusals.{FALSE-EASTING, FALSE-NORTHING}
-use Rattle.projection.specs.Checks.{or-else, guard, validate-angle, validate-offset, validate-lon-lat, validate-projected}
-use Rattle.projection.specs.Longitude.{normalize-longitude}
-use Rattle.projection.specs.Authalic.{authalic-q, geodetic-from-authalic}
+use Rattle.authalic.specs.Authalic.{authalic-q, geodetic-from-authalic}
+use Rattle.projection.specs.Checks.{guard, validate-settings, validate-projected}
+use Rattle.projection.specs.Starts.{enter, entered}
 use Rattle.projection.specs.Iteration.{converge}
 use Rattle.projection.specs.Ends.{ensure-finite-xy, finish}
 use Rattle.projection.specs.declared.Answer.{Answer}
 use Rattle.projection.specs.declared.Answer.the-variants.{Pair, Refused}
-use Rattle.projection.specs.declared.Settled.{Settled}
-use Rattle.projection.specs.declared.Settled.the-variants as settled
+use Rattle.projection.specs.declared.Solution.{Solution}
+use Rattle.projection.specs.declared.Solution.the-variants as solution
 use Rattle.equal_earth.specs.declared.EqualEarth.{EqualEarth}
 use Rattle.equal_earth.specs.declared.BuiltEqualEarth.{BuiltEqualEarth}
 use Rattle.equal_earth.specs.declared.BuiltEqualEarth.the-variants as built
@@ -80,34 +79,35 @@ y-over-psi psi2 psi6 = A1 ⊕ A2 ⊗ psi2 ⊕ psi6 ⊗ (A3 ⊕ A4 ⊗ psi2)
 unfoldable pub polar-q : Float → Float
 polar-q e2 = cond (e2 ≈ +0) two (authalic-q FRAC-PI-2 e2)
 
--- rqda is the authalic radius over a, root (qp / 2) (Snyder 3-13). The source's 1 on a sphere is that too.
+-- rqda is the authalic radius over a, root (q_p / 2) (Snyder 3-13). The source's 1 on a sphere is that too.
+unfoldable pub derived : Ellipsoid → Float → Float → Float → EqualEarth
+derived ellipsoid lon0 false-easting false-northing =
+    let q-p = polar-q (e2 ellipsoid) in
+    record { a = ellipsoid .a; e2 = e2 ellipsoid; lon0 = lon0; «false_easting» = false-easting; «false_northing» = false-northing; «q_p» = q-p; rqda = root (half ⊗ q-p) }
+
 unfoldable pub new : Ellipsoid → Float → Float → Float → BuiltEqualEarth
-new ellipsoid lon0 fe fn =
-    let qp = polar-q (e2 ellipsoid) in
-    guard (or-else (validate-angle lon0) (or-else (validate-offset fe FALSE-EASTING) (validate-offset fn FALSE-NORTHING))) built.Refused
-    (built.Built (record { a = ellipsoid .a; e2 = e2 ellipsoid; lon0 = lon0; «false_easting» = fe; «false_northing» = fn; qp = qp; rqda = root (half ⊗ qp) }))
+new ellipsoid lon0 false-easting false-northing =
+    guard (validate-settings lon0 +0 +0 +0 false-easting false-northing) built.Refused
+    (built.Built (derived ellipsoid lon0 false-easting false-northing))
 
 -- ---- forward
 
--- the sine of the authalic latitude β, q / qp (Snyder 3-11), which rounding may bring past 1
+-- the sine of the authalic latitude β, q / q_p (Snyder 3-11), which rounding may bring past 1
 unfoldable pub sin-beta : EqualEarth → Float → Float
-sin-beta p lat = cond (p .e2 ≈ +0) (sine lat) (clamp (authalic-q lat (p .e2) ⊘ p .qp) (neg one) one)
+sin-beta p lat = cond (p .e2 ≈ +0) (sine lat) (clamp (authalic-q lat (p .e2) ⊘ p .«q_p») (neg one) one)
 
--- sin ψ = (√3 / 2) sin β
-unfoldable pub psi-of-latitude : EqualEarth → Float → Float
-psi-of-latitude p lat = arcsine (M ⊗ sin-beta p lat)
-
--- E = FE + Rq λ cos ψ / (√3 / 2 dy/dψ), N = FN + Rq y
+-- sin ψ = (√3 / 2) sin β, E = FE + Rq λ cos ψ / (√3 / 2 dy/dψ), N = FN + Rq y
 unfoldable pub projected : EqualEarth → Float → Float → Answer
-projected p lam psi =
+projected p d-lon lat =
+    let psi = arcsine (M ⊗ sin-beta p lat) in
     let psi2 = psi ⊗ psi in
     let psi6 = psi2 ⊗ psi2 ⊗ psi2 in
     let scale = p .a ⊗ p .rqda in
-    ensure-finite-xy (p .«false_easting» ⊕ scale ⊗ lam ⊗ cosine psi ⊘ (M ⊗ y-derivative psi2 psi6))
+    ensure-finite-xy (p .«false_easting» ⊕ scale ⊗ d-lon ⊗ cosine psi ⊘ (M ⊗ y-derivative psi2 psi6))
     (p .«false_northing» ⊕ scale ⊗ psi ⊗ y-over-psi psi2 psi6)
 
 unfoldable pub forward : EqualEarth → Float → Float → Answer
-forward p lon lat = guard (validate-lon-lat lon lat) Refused (projected p (normalize-longitude (lon ⊖ p .lon0)) (psi-of-latitude p lat))
+forward p lon lat = entered (λ d-lon. projected p d-lon lat) (enter lon lat (p .lon0))
 
 -- ---- inverse
 
@@ -118,7 +118,7 @@ newton ys yc =
     let y6 = y2 ⊗ y2 ⊗ y2 in
     yc ⊖ (yc ⊗ y-over-psi y2 y6 ⊖ ys) ⊘ y-derivative y2 y6
 
-unfoldable pub psi-of-northing : Float → Settled
+unfoldable pub psi-of-northing : Float → Solution
 psi-of-northing ys = converge (newton ys) ys STEPS TOLERANCE
 
 -- λ = λ0 + (√3 / 2) x dy/dψ / cos ψ on the unit sphere: 01's formula's longitude
@@ -133,9 +133,9 @@ unfoldable pub latitude : EqualEarth → Float → Float
 latitude p psi = geodetic-from-authalic (arcsine (clamp (sine psi ⊘ M) (neg one) one)) (p .e2)
 
 -- the formula's answer once the rounds have ended
-unfoldable pub place : EqualEarth → Float → Settled → Answer
-place p xs (settled.Found psi) = Pair (longitude p xs psi) (latitude p psi)
-place p xs (settled.Refused n) = Refused n
+unfoldable pub place : EqualEarth → Float → Solution → Answer
+place p xs (solution.Found psi) = Pair (longitude p xs psi) (latitude p psi)
+place p xs (solution.Refused n) = Refused n
 
 -- A scaled northing off the map is answered as its edge. The papers have no such rule.
 unfoldable pub formula : EqualEarth → Float → Float → Answer

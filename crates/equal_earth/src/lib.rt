@@ -1,31 +1,27 @@
 // Equal Earth (EPSG method 1078): the source's equal_earth.rs.
 ghost use mathlib.Core.Path.{_≡_};
 ghost use Rattle.projection.specs.OnTheMap.{OnTheMap};
-ghost use Rattle.equal_earth.specs.EqualEarth.{y-derivative, y-over-psi, polar-q, new, sin-beta, psi-of-latitude, projected, forward, newton, psi-of-northing, place, formula, inverse};
+ghost use Rattle.equal_earth.specs.EqualEarth.{y-derivative, y-over-psi, polar-q, derived, new, sin-beta, projected, forward, newton, psi-of-northing, place, formula, inverse};
+use authalic::authalic_q;
+use authalic::geodetic_from_authalic;
 use ellipsoid::Ellipsoid;
 use fixed::asin;
-use fixed::cos;
-use fixed::sin;
-use fixed::sin_cos;
 use float::FRAC_PI_2;
 use float::abs;
 use float::clamp;
 use projection::Answer;
-use projection::Settled;
-use projection::authalic_q;
+use projection::Entrance;
+use projection::Solution;
 use projection::ensure_finite_xy;
+use projection::enter;
 use projection::finish;
-use projection::geodetic_from_authalic;
-use projection::normalize_longitude;
-use projection::or_else;
-use projection::refusals::FALSE_EASTING;
-use projection::refusals::FALSE_NORTHING;
-use projection::refusals::STEPS_USED_UP;
-use projection::validate_angle;
-use projection::validate_lon_lat;
-use projection::validate_offset;
 use projection::validate_projected;
+use projection::validate_settings;
+use refusals::STEPS_USED_UP;
 use root::root;
+use trigonometry::cos;
+use trigonometry::sin;
+use trigonometry::sin_cos;
 
 pub struct EqualEarth {
     pub a: f64,
@@ -34,7 +30,7 @@ pub struct EqualEarth {
     pub false_easting: f64,
     pub false_northing: f64,
     // The authalic q of the pole.
-    pub qp: f64,
+    pub q_p: f64,
     // The authalic radius divided by a.
     pub rqda: f64,
 }
@@ -97,28 +93,32 @@ impl EqualEarth {
     ) -> BuiltEqualEarth
         ensures { λ r. ⌜ r ≡ new ellipsoid lon0 «false_easting» «false_northing» ⌝ }
     {
-        let fault = or_else(
-            validate_angle(lon0),
-            or_else(
-                validate_offset(false_easting, FALSE_EASTING),
-                validate_offset(false_northing, FALSE_NORTHING),
-            ),
-        );
+        let fault = validate_settings(lon0, 0.0, 0.0, 0.0, false_easting, false_northing);
         if fault == 0 {
-            let e2 = ellipsoid.e2();
-            let qp = polar_q(e2);
-            let built = EqualEarth {
-                a: ellipsoid.a,
-                e2,
-                lon0,
-                false_easting,
-                false_northing,
-                qp,
-                rqda: root(0.5 * qp),
-            };
-            BuiltEqualEarth::Built(built)
+            BuiltEqualEarth::Built(Self::derived(ellipsoid, lon0, false_easting, false_northing))
         } else {
             BuiltEqualEarth::Refused(fault)
+        }
+    }
+
+    fn derived(
+        ellipsoid: Ellipsoid,
+        lon0: f64,
+        false_easting: f64,
+        false_northing: f64,
+    ) -> EqualEarth
+        ensures { λ r. ⌜ r ≡ derived ellipsoid lon0 «false_easting» «false_northing» ⌝ }
+    {
+        let e2 = ellipsoid.e2();
+        let q_p = polar_q(e2);
+        EqualEarth {
+            a: ellipsoid.a,
+            e2,
+            lon0,
+            false_easting,
+            false_northing,
+            q_p,
+            rqda: root(0.5 * q_p),
         }
     }
 
@@ -129,25 +129,19 @@ impl EqualEarth {
         if self.e2 == 0.0 {
             sin(lat)
         } else {
-            clamp(authalic_q(lat, self.e2) / self.qp, -1.0, 1.0)
+            clamp(authalic_q(lat, self.e2) / self.q_p, -1.0, 1.0)
         }
     }
 
-    // The parametric latitude ψ of a latitude.
-    fn psi_of_latitude(self, lat: f64) -> f64
-        ensures { λ r. ⌜ r ≡ psi-of-latitude self lat ⌝ }
+    // The place on the map of a longitude from the origin and a latitude, whose parametric latitude is ψ.
+    fn projected(self, d_lon: f64, lat: f64) -> Answer
+        ensures { λ r. ⌜ r ≡ projected self «d_lon» lat ⌝ }
     {
-        asin(M * self.sin_beta(lat))
-    }
-
-    // The place on the map of a longitude from the origin and a parametric latitude.
-    fn projected(self, lam: f64, psi: f64) -> Answer
-        ensures { λ r. ⌜ r ≡ projected self lam psi ⌝ }
-    {
+        let psi = asin(M * self.sin_beta(lat));
         let psi2 = psi * psi;
         let psi6 = psi2 * psi2 * psi2;
         let scale = self.a * self.rqda;
-        let x = self.false_easting + scale * lam * cos(psi) / (M * y_derivative(psi2, psi6));
+        let x = self.false_easting + scale * d_lon * cos(psi) / (M * y_derivative(psi2, psi6));
         let y = self.false_northing + scale * psi * y_over_psi(psi2, psi6);
         ensure_finite_xy(x, y)
     }
@@ -155,14 +149,9 @@ impl EqualEarth {
     pub fn forward(self, lon: f64, lat: f64) -> Answer
         ensures { λ r. ⌜ r ≡ forward self lon lat ⌝ }
     {
-        let fault = validate_lon_lat(lon, lat);
-        if fault == 0 {
-            self.projected(
-                normalize_longitude(lon - self.lon0),
-                self.psi_of_latitude(lat),
-            )
-        } else {
-            Answer::Refused(fault)
+        match enter(lon, lat, self.lon0) {
+            Entrance::Passed(d_lon) => self.projected(d_lon, lat),
+            Entrance::Refused(n) => Answer::Refused(n),
         }
     }
 
@@ -177,26 +166,26 @@ impl EqualEarth {
     }
 
     // The parametric latitude ψ of a northing on the unit sphere.
-    fn psi_of_northing(ys: f64) -> Settled
+    fn psi_of_northing(ys: f64) -> Solution
         ensures { λ r. ⌜ r ≡ psi-of-northing ys ⌝ }
     {
         let mut yc = ys;
         for _ in 0..Self::STEPS {
             let next = Self::newton(ys, yc);
             if abs(next - yc) < Self::TOLERANCE {
-                return Settled::Found(next);
+                return Solution::Found(next);
             }
             yc = next;
         }
-        Settled::Refused(STEPS_USED_UP)
+        Solution::Refused(STEPS_USED_UP)
     }
 
     // The place of an easting on the unit sphere and a parametric latitude. Its longitude is not normalised yet.
-    fn place(self, xs: f64, settled: Settled) -> Answer
-        ensures { λ r. ⌜ r ≡ place self xs settled ⌝ }
+    fn place(self, xs: f64, solution: Solution) -> Answer
+        ensures { λ r. ⌜ r ≡ place self xs solution ⌝ }
     {
-        match settled {
-            Settled::Found(psi) => {
+        match solution {
+            Solution::Found(psi) => {
                 let psi2 = psi * psi;
                 let psi6 = psi2 * psi2 * psi2;
                 let sc = sin_cos(psi);
@@ -204,7 +193,7 @@ impl EqualEarth {
                 let beta = asin(clamp(sc.sin / M, -1.0, 1.0));
                 Answer::Pair(lon, geodetic_from_authalic(beta, self.e2))
             }
-            Settled::Refused(n) => Answer::Refused(n),
+            Solution::Refused(n) => Answer::Refused(n),
         }
     }
 

@@ -1,7 +1,3 @@
-mod NestedSteps
-mod Alternating
-mod FactorialTable
-mod Quarters
 mod Differences
 mod MantissaStep
 mod PatternUnits

@@ -7,7 +7,7 @@ use lib.IntN.{pos, _+ℤ_, _-ℤ_}
 use lib.Ieee.{Float, binary64, ofInt}
 use Rattle.float.specs.Operators.{_⊗_}
 use Rattle.float.specs.Constants.{half}
-use Rattle.fixed.specs.Counting.{bit}
+use Rattle.sums.specs.Counting.{bit}
 use Rattle.fixed.specs.Logarithm.{ln-near-one}
 use Rattle.fixed.proofs.Differences.{one-more}
 

@@ -8,8 +8,8 @@ use Rattle.float.specs.Operators.{_⊕_, _⊖_, _⊗_, _⊘_, _≺_, _≈_, f64
 use Rattle.float.specs.Constants.{+0, one, two, three, four, PI, FRAC-PI-2, FRAC-PI-4, LO}
 use Rattle.float.specs.Sign.{negative, abs}
 use Rattle.root.specs.Root.{root}
-use Rattle.fixed.specs.NestedSum.{alternating}
-use Rattle.fixed.specs.InverseOdds.{inverse-odds}
+use Rattle.sums.specs.NestedSum.{alternating}
+use Rattle.sums.specs.InverseOdds.{inverse-odds}
 
 -- the tangent of half the angle whose tangent is t
 unfoldable pub half-angle : Float → Float

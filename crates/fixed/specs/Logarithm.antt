@@ -10,8 +10,8 @@ use lib.Ieee.Scale.{finite}
 use Rattle.float.specs.Operators.{_⊕_, _⊖_, _⊗_, _⊘_, _≺_, _≈_, f64}
 use Rattle.float.specs.Constants.{+0, one, two, half, ratio}
 use Rattle.root.specs.Root.{root}
-use Rattle.fixed.specs.NestedSum.{nested}
-use Rattle.fixed.specs.InverseOdds.{inverse-odds}
+use Rattle.sums.specs.NestedSum.{nested}
+use Rattle.sums.specs.InverseOdds.{inverse-odds}
 
 abbrev pub SQRT-2 : Float
 SQRT-2 = f64 0x3ff6a09e667f3bcd

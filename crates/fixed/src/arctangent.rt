@@ -1,4 +1,3 @@
-use crate::inverse_odds::odd_sum;
 use float::FRAC_PI_2;
 use float::FRAC_PI_4;
 use float::LO;
@@ -10,6 +9,7 @@ use float::is_negative;
 use float::nan;
 use float::pick;
 use root::root;
+use sums::odd_sum;
 ghost use mathlib.Core.Path.{_≡_};
 ghost use mathlib.Core.Bool.{cond};
 ghost use Rattle.float.specs.Operators.{_⊘_, _≺_};

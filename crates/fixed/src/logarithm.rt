@@ -1,9 +1,9 @@
-use crate::counting::bit;
-use crate::inverse_odds::odd_sum;
 use float::bits_of;
 use float::is_finite;
 use float::nan;
 use float::pick;
+use sums::bit;
+use sums::odd_sum;
 ghost use mathlib.Core.Path.{_≡_};
 ghost use Prim.Native.Nat.{_+_, _/_, _%_, _^_, _<_, _≤_};
 ghost use lib.IntN.{pos, _-ℤ_};

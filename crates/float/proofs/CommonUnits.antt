@@ -52,7 +52,7 @@ pub record Common (f : Format) (a b m n : ℕ) (e d : ℤ) : Type 0 where
   pub right : n * up d * 2 ^ low f ≡ b * down d
   pub left-cross : m * up e * down d * 2 ^ low f ≡ a * (down e * down d)
   pub right-cross : n * up d * down e * 2 ^ low f ≡ b * (down e * down d)
-  pub positive : 0 < down e * down d
+  pub denominators-pos : 0 < down e * down d
 
 -- what holds of all such pairs holds of x and y
 pub both-units : {f : Format} {x y : Float} {s t : Bool} {a b : ℕ} (P : Float → Float → Type 0)
@@ -69,7 +69,7 @@ both-units {f} {x} {y} {s} {t} {a} {b} P v w k = go x y (v .value) (w .value)
       right = w .1;
       left-cross = cross (m * up e) (down e) (down d) a (2 ^ low f) (v .1);
       right-cross = rw (mul-comm (down e) (down d)) (cross (n * up d) (down d) (down e) b (2 ^ low f) (w .1));
-      positive = mul-pos (down-pos e) (down-pos d);
+      denominators-pos = mul-pos (down-pos e) (down-pos d);
     }))
 
 -- a float above 0 has an m above 0

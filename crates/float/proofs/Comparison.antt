@@ -26,13 +26,13 @@ pub lt-units : {f : Format} {x y : Float} {s t : Bool} {a b : ℕ} → HasUnits 
 unfolding lt
 lt-units {f} {s = s} {t} {a} {b} v w = both-units (λ (x y : Float). lt x y ≡ below s a t b) v w
     (λ m n e d h.
-    below-common (m * up e * down d) (n * up d * down e) a b (pow-pos (low f)) (h .positive) (h .left-cross) (h .right-cross) s t)
+    below-common (m * up e * down d) (n * up d * down e) a b (pow-pos (low f)) (h .denominators-pos) (h .left-cross) (h .right-cross) s t)
 
 pub eq-units : {f : Format} {x y : Float} {s t : Bool} {a b : ℕ} → HasUnits f x s a → HasUnits f y t b → eq x y ≡ level s a t b
 unfolding eq
 eq-units {f} {s = s} {t} {a} {b} v w = both-units (λ (x y : Float). eq x y ≡ level s a t b) v w
     (λ m n e d h.
-    level-common (m * up e * down d) (n * up d * down e) a b (pow-pos (low f)) (h .positive) (h .left-cross) (h .right-cross) s t)
+    level-common (m * up e * down d) (n * up d * down e) a b (pow-pos (low f)) (h .denominators-pos) (h .left-cross) (h .right-cross) s t)
 
 pub le-units : {f : Format} {x y : Float} {s t : Bool} {a b : ℕ} → HasUnits f x s a → HasUnits f y t b
     → le x y ≡ (below s a t b || level s a t b)

@@ -1,6 +1,7 @@
 -- ---- patterns and the sign bit
 pub mod Patterns
 pub mod SignBit
+pub mod SignLaws
 -- ---- numbers of p binary digits
 pub mod Powers
 mod Multiples

@@ -21,7 +21,7 @@ mul-units {f} {s = s} {t} {a} {b} v w =
     both-units (λ (x y : Float). mul f x y ≡ round f (unlike s t) (a * b) (u * u)) v w
     (λ m n e d h.
     round-same f (unlike s t) (m * up e * (n * up d)) (down e * down d) (a * b) (u * u)
-    (h .positive) (mul-pos (pow-pos (low f)) (pow-pos (low f)))
+    (h .denominators-pos) (mul-pos (pow-pos (low f)) (pow-pos (low f)))
     (rw (mul-mul-mul-comm (m * up e) (n * up d) u u, h .left, h .right) (mul-mul-mul-comm a (down e) b (down d))))
 
 module _ {f : Format} {x y : Float} {s t : Bool} {a b : ℕ} (p : Finite f x s a) (q : Finite f y t b) where

@@ -23,8 +23,8 @@ rem-units {f} {s = s} {t} {a} {b} v w B = both-units (λ (x y : Float). rem f x 
     (λ m n e d h.
     let N : 0 < n = nonzero n (up d) (2 ^ low f) b (down d) (h .right) B (down-pos d) in
     rw (ne-eqb n 0 (λ z. omega arith))
-    (round-same f s (m * up e * down d % (n * up d * down e)) (down e * down d) (a % b) (2 ^ low f) (h .positive) (pow-pos (low f))
-    (mod-common (m * up e * down d) (n * up d * down e) a b (pow-pos (low f)) (h .positive) (h .left-cross) (h .right-cross))))
+    (round-same f s (m * up e * down d % (n * up d * down e)) (down e * down d) (a % b) (2 ^ low f) (h .denominators-pos) (pow-pos (low f))
+    (mod-common (m * up e * down d) (n * up d * down e) a b (pow-pos (low f)) (h .denominators-pos) (h .left-cross) (h .right-cross))))
 
 pub rem-finite : {f : Format} {x y : Float} {s t : Bool} {a b : ℕ} → Finite f x s a → Finite f y t b → 0 < b
     → Finite f (rem f x y) s (a % b)

@@ -32,7 +32,7 @@ pub add-units : {f : Format} {x y : Float} {s t : Bool} {a b : ℕ} → HasUnits
 unfolding add
 add-units {f} {s = s} {t} {a} {b} v w = both-units (λ (x y : Float). add f x y ≡ sum f s a t b (2 ^ low f)) v w
     (λ m n e d h.
-    sum-common f s t (m * up e * down d) (n * up d * down e) a b (pow-pos (low f)) (h .positive) (h .left-cross) (h .right-cross))
+    sum-common f s t (m * up e * down d) (n * up d * down e) a b (pow-pos (low f)) (h .denominators-pos) (h .left-cross) (h .right-cross))
 
 -- ---- `sum` of like signs, and of unlike ones by which is the larger
 sum-alike : (f : Format) (s : Bool) (a b c : ℕ) → sum f s a s b c ≡ round f s (a + b) c

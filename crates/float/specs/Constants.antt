@@ -2,9 +2,9 @@
 use mathlib.Core.Path.{_≡_, refl}
 use mathlib.Core.List.{List, [], _∷_}
 use mathlib.Core.Bool.{true, false}
-use Prim.Native.Nat.{ℕ, _^_}
-use lib.Ieee.{Float, binary64, round, ofBits, add, mul, div}
-use Rattle.float.specs.Operators.{_⊕_, _⊗_, _⊘_, f64}
+use Prim.Native.Nat.{ℕ}
+use lib.Ieee.{Float, binary64, round, ofBits, mul, div}
+use Rattle.float.specs.Operators.{_⊗_, _⊘_, f64}
 
 abbrev pub +0 : Float
 +0 = f64 0
@@ -42,20 +42,13 @@ LO = f64 0x3c91a62633145c07
 abbrev pub TURN : Float
 TURN = f64 0x401921fb54442d18
 
-abbrev pub LAT-EPSILON : Float
-LAT-EPSILON = f64 0x3d719799812dea11
-
--- the bound on latitudes, π/2 + 1e-12, summed once
-abbrev pub LAT-BOUND : Float
-LAT-BOUND = f64 0x3ff921fb54443eb0
-
 -- the f64 nearest to n / d
 abbrev pub ratio : ℕ → ℕ → Float
 ratio n d = round binary64 false n d
 
 -- what the constants stand for: whole numbers and fractions by rounding, the others by one operation on PI
 pub constants :
-    (+0 ∷ one ∷ two ∷ three ∷ four ∷ half ∷ FRAC-PI-2 ∷ FRAC-PI-4 ∷ TURN ∷ LAT-EPSILON ∷ LAT-BOUND ∷ [])
-    ≡ (ratio 0 1 ∷ ratio 1 1 ∷ ratio 2 1 ∷ ratio 3 1 ∷ ratio 4 1 ∷ ratio 1 2 ∷ PI ⊘ two ∷ PI ⊘ four ∷ two ⊗ PI ∷ ratio 1 (10 ^ 12) ∷ FRAC-PI-2 ⊕ LAT-EPSILON ∷ [])
-unfolding ofBits round add mul div
+    (+0 ∷ one ∷ two ∷ three ∷ four ∷ half ∷ FRAC-PI-2 ∷ FRAC-PI-4 ∷ TURN ∷ [])
+    ≡ (ratio 0 1 ∷ ratio 1 1 ∷ ratio 2 1 ∷ ratio 3 1 ∷ ratio 4 1 ∷ ratio 1 2 ∷ PI ⊘ two ∷ PI ⊘ four ∷ two ⊗ PI ∷ [])
+unfolding ofBits round mul div
 constants = refl

@@ -4,3 +4,4 @@ pub mod Constants
 pub mod Sign
 pub mod Limits
 pub mod Units
+pub mod Opened

@@ -16,6 +16,6 @@ abbrev pub signed : Bool → ℕ → ℤ
 signed s a = cond s (negℤ (pos a)) (pos a)
 
 -- the value of a finite f64, in units
-unfoldable pub units : Float → ℤ
+unfoldable pub in-units : Float → ℤ
 unfolding unit-count negative
-units x = signed (negative x) (unit-count binary64 x)
+in-units x = signed (negative x) (unit-count binary64 x)

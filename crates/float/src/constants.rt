@@ -10,6 +10,3 @@ pub const LO: f64 = f64::from_bits(0x3c91_a626_3314_5c07);
 
 // A whole turn, 2 × PI.
 pub const TURN: f64 = f64::from_bits(0x4019_21fb_5444_2d18);
-
-// The bound on latitudes, π/2 + 1e-12.
-pub const LAT_BOUND: f64 = f64::from_bits(0x3ff9_21fb_5444_3eb0);

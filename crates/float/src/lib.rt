@@ -13,7 +13,6 @@ pub use bits::nan;
 pub use choice::pick;
 pub use constants::FRAC_PI_2;
 pub use constants::FRAC_PI_4;
-pub use constants::LAT_BOUND;
 pub use constants::LO;
 pub use constants::PI;
 pub use constants::TURN;

@@ -1,27 +1,22 @@
 // The Guam projection, EPSG method 9831: GuamProjection of the source's azimuthal_equidistant.rs.
 ghost use mathlib.Core.Path.{_≡_};
 ghost use Rattle.projection.specs.OnTheMap.{OnTheMap};
-ghost use Rattle.guam_projection.specs.GuamProjection.{new, built, validate-ellipsoidal, projected, forward, round-from, rounds, place, formula, inverse};
+ghost use Rattle.guam_projection.specs.GuamProjection.{derived, checked, built, new, projected, forward, round-from, rounds, place, formula, inverse};
 use ellipsoid::Ellipsoid;
-use fixed::cos;
-use fixed::sin_cos;
+use meridian::inverse_meridian_arc;
+use meridian::meridian_arc;
+use meridian::meridian_arc_coefficients;
 use projection::Answer;
+use projection::Entrance;
 use projection::ensure_finite_xy;
+use projection::enter;
 use projection::finish;
-use projection::inverse_meridian_arc;
-use projection::meridian_arc;
-use projection::meridian_arc_coefficients;
-use projection::normalize_longitude;
-use projection::or_else;
-use projection::refusals::FALSE_EASTING;
-use projection::refusals::FALSE_NORTHING;
-use projection::refusals::SPHERE;
-use projection::validate_angle;
-use projection::validate_latitude_param;
-use projection::validate_lon_lat;
-use projection::validate_offset;
 use projection::validate_projected;
+use projection::validate_settings;
+use refusals::SPHERE;
 use root::root;
+use trigonometry::cos;
+use trigonometry::sin_cos;
 
 pub struct GuamProjection {
     pub a: f64,
@@ -53,7 +48,8 @@ pub struct Round {
 }
 
 impl GuamProjection {
-    pub const GUAM_INVERSE_ITERATIONS: usize = 3;
+    // The inverse's rounds.
+    const STEPS: usize = 3;
 
     pub fn new(
         ellipsoid: Ellipsoid,
@@ -81,65 +77,68 @@ impl GuamProjection {
     ) -> BuiltGuamProjection
         ensures { λ r. ⌜ r ≡ built ellipsoid lon0 lat0 «false_easting» «false_northing» en ⌝ }
     {
-        let e2 = ellipsoid.e2();
-        let fault = or_else(
-            validate_angle(lon0),
-            or_else(
-                validate_latitude_param(lat0),
-                or_else(
-                    validate_offset(false_easting, FALSE_EASTING),
-                    or_else(
-                        validate_offset(false_northing, FALSE_NORTHING),
-                        Self::validate_ellipsoidal(e2),
-                    ),
-                ),
-            ),
-        );
+        let fault = validate_settings(lon0, lat0, 0.0, 0.0, false_easting, false_northing);
         if fault == 0 {
-            let sc = sin_cos(lat0);
-            let p = GuamProjection {
-                a: ellipsoid.a,
-                e2,
-                e: root(e2),
-                lon0,
-                lat0,
-                false_easting,
-                false_northing,
-                m1: meridian_arc(lat0, sc.sin, sc.cos, en),
-            };
-            BuiltGuamProjection::Built(p)
+            Self::derived(ellipsoid, lon0, lat0, false_easting, false_northing, en).checked()
         } else {
             BuiltGuamProjection::Refused(fault)
         }
     }
 
-    fn validate_ellipsoidal(e2: f64) -> u8
-        ensures { λ r. ⌜ r ≡ validate-ellipsoidal e2 ⌝ }
+    fn derived(
+        ellipsoid: Ellipsoid,
+        lon0: f64,
+        lat0: f64,
+        false_easting: f64,
+        false_northing: f64,
+        en: [f64; 13],
+    ) -> GuamProjection
+        ensures { λ r. ⌜ r ≡ derived ellipsoid lon0 lat0 «false_easting» «false_northing» en ⌝ }
     {
-        if e2 == 0.0 { SPHERE } else { 0 }
+        let e2 = ellipsoid.e2();
+        let sc = sin_cos(lat0);
+        GuamProjection {
+            a: ellipsoid.a,
+            e2,
+            e: root(e2),
+            lon0,
+            lat0,
+            false_easting,
+            false_northing,
+            m1: meridian_arc(lat0, sc.sin, sc.cos, en),
+        }
+    }
+
+    // 11, or the projection.
+    fn checked(self) -> BuiltGuamProjection
+        ensures { λ r. ⌜ r ≡ checked self ⌝ }
+    {
+        if self.e2 == 0.0 {
+            BuiltGuamProjection::Refused(SPHERE)
+        } else {
+            BuiltGuamProjection::Built(self)
+        }
     }
 
     pub fn forward(self, en: [f64; 13], lon: f64, lat: f64) -> Answer
         ensures { λ r. ⌜ r ≡ forward self en lon lat ⌝ }
     {
-        let fault = validate_lon_lat(lon, lat);
-        if fault == 0 {
-            self.projected(en, normalize_longitude(lon - self.lon0), lat)
-        } else {
-            Answer::Refused(fault)
+        match enter(lon, lat, self.lon0) {
+            Entrance::Passed(d_lon) => self.projected(en, d_lon, lat),
+            Entrance::Refused(n) => Answer::Refused(n),
         }
     }
 
-    fn projected(self, en: [f64; 13], lam: f64, lat: f64) -> Answer
-        ensures { λ r. ⌜ r ≡ projected self en lam lat ⌝ }
+    fn projected(self, en: [f64; 13], d_lon: f64, lat: f64) -> Answer
+        ensures { λ r. ⌜ r ≡ projected self en «d_lon» lat ⌝ }
     {
         let phi = sin_cos(lat);
         let sinphi = phi.sin;
         let cosphi = phi.cos;
         let t = 1.0 / root(1.0 - self.e2 * sinphi * sinphi);
-        let x = lam * cosphi * t;
+        let x = d_lon * cosphi * t;
         let y = meridian_arc(lat, sinphi, cosphi, en) - self.m1
-            + 0.5 * lam * lam * cosphi * sinphi * t;
+            + 0.5 * d_lon * d_lon * cosphi * sinphi * t;
         ensure_finite_xy(
             self.false_easting + self.a * x,
             self.false_northing + self.a * y,
@@ -168,7 +167,7 @@ impl GuamProjection {
             phi: self.lat0,
             t: 0.0,
         };
-        for _ in 0..Self::GUAM_INVERSE_ITERATIONS {
+        for _ in 0..Self::STEPS {
             last = self.round_from(en, ys, x2, last.phi);
         }
         last

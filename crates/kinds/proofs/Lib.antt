@@ -1,2 +1,1 @@
-mod OneOf
 pub mod Unused

@@ -31,108 +31,128 @@ use Rattle.american_polyconic.specs.declared.BuiltAmericanPolyconic.the-variant
 use Rattle.guam_projection.specs.GuamProjection as gm
 use Rattle.guam_projection.specs.declared.BuiltGuamProjection.{BuiltGuamProjection}
 use Rattle.guam_projection.specs.declared.BuiltGuamProjection.the-variants as gm-built
-use Rattle.kinds.specs.declared.Method.{Method}
-use Rattle.kinds.specs.declared.Method.the-variants.{L, S, A, E, C, P, G}
-use Rattle.kinds.specs.declared.Way.{Way}
-use Rattle.kinds.specs.declared.Way.the-variants.{Forward, Inverse}
-use Rattle.kinds.specs.declared.Settings.{Settings}
-use Rattle.kinds.specs.declared.Kind.{Kind}
-use Rattle.kinds.specs.declared.Kind.the-variants.{Lambert, Albers, Equal, Cassini, Polyconic, Guam}
-use Rattle.kinds.specs.declared.BuiltKind.{BuiltKind}
-use Rattle.kinds.specs.declared.BuiltKind.the-variants.{Built, Refused}
-use Rattle.kinds.specs.declared.NewProjection.{NewProjection}
+use Rattle.letters.specs.Uses.{used}
+use Rattle.letters.specs.declared.Kind.{Kind}
+use Rattle.letters.specs.declared.Kind.the-variants.{L, S, A, E, C, P, G}
+use Rattle.letters.specs.declared.Way.{Way}
+use Rattle.letters.specs.declared.Way.the-variants.{Forward, Inverse}
+use Rattle.letters.specs.declared.Settings.{Settings}
+use Rattle.kinds.specs.declared.Built.{Built}
+use Rattle.kinds.specs.declared.Built.the-variants.{Lambert, Albers, Equal, Cassini, Polyconic, Guam, Refused}
+use Rattle.kinds.specs.declared.Projection.{Projection}
 
--- ---- what a kind's constructor answers, as a choice
+-- ---- what the constructor of a kind answers, as a choice
 
-unfoldable pub lambert : BuiltLambertAzimuthalEqualArea → BuiltKind
-lambert (laea-built.Built p) = Built (Lambert p)
+unfoldable pub lambert : BuiltLambertAzimuthalEqualArea → Built
+lambert (laea-built.Built p) = Lambert p
 lambert (laea-built.Refused n) = Refused n
 
-unfoldable pub albers : BuiltAlbersEqualArea → BuiltKind
-albers (aea-built.Built p) = Built (Albers p)
+unfoldable pub albers : BuiltAlbersEqualArea → Built
+albers (aea-built.Built p) = Albers p
 albers (aea-built.Refused n) = Refused n
 
-unfoldable pub equal-earth : BuiltEqualEarth → BuiltKind
-equal-earth (eqearth-built.Built p) = Built (Equal p)
+unfoldable pub equal-earth : BuiltEqualEarth → Built
+equal-earth (eqearth-built.Built p) = Equal p
 equal-earth (eqearth-built.Refused n) = Refused n
 
-unfoldable pub cassini : BuiltCassiniSoldner → BuiltKind
-cassini (cass-built.Built p) = Built (Cassini p)
+unfoldable pub cassini : BuiltCassiniSoldner → Built
+cassini (cass-built.Built p) = Cassini p
 cassini (cass-built.Refused n) = Refused n
 
-unfoldable pub polyconic : BuiltAmericanPolyconic → BuiltKind
-polyconic (poly-built.Built p) = Built (Polyconic p)
+unfoldable pub polyconic : BuiltAmericanPolyconic → Built
+polyconic (poly-built.Built p) = Polyconic p
 polyconic (poly-built.Refused n) = Refused n
 
-unfoldable pub guam : BuiltGuamProjection → BuiltKind
-guam (gm-built.Built p) = Built (Guam p)
+unfoldable pub guam : BuiltGuamProjection → Built
+guam (gm-built.Built p) = Guam p
 guam (gm-built.Refused n) = Refused n
 
 -- a kind that has no meridian numbers
-abbrev pub plain : BuiltKind → NewProjection
+abbrev pub plain : Built → Projection
 plain built = record { built = built; en = replicate 13 +0 }
 
 -- ---- a projection of a kind
 
-unfoldable pub new : Method → Ellipsoid → Settings → NewProjection
-new L e s = plain (lambert (laea.new e (s .lon0) (s .lat0) (s .«false_easting») (s .«false_northing»)))
-new S e s = plain (lambert (laea.new-spherical e (s .lon0) (s .lat0) (s .«false_easting») (s .«false_northing»)))
-new A e s = plain (albers (aea.new e (s .lon0) (s .lat0) (s .lat1) (s .lat2) (s .«false_easting») (s .«false_northing»)))
-new E e s = plain (equal-earth (eqearth.new e (s .lon0) (s .«false_easting») (s .«false_northing»)))
-new C e s = plain (cassini (cass.new e (s .lon0) (s .lat0) (s .«false_easting») (s .«false_northing»)))
-new P e s = let q = poly.new e (s .lon0) (s .lat0) (s .«false_easting») (s .«false_northing») in record { built = polyconic (q .built); en = q .en }
-new G e s = let q = gm.new e (s .lon0) (s .lat0) (s .«false_easting») (s .«false_northing») in record { built = guam (q .built); en = q .en }
+-- by settings of which each that the kind does not use is +0
+unfoldable pub made : Kind → Ellipsoid → Settings → Projection
+made L e s = plain (lambert (laea.new e (s .lon0) (s .lat0) (s .«false_easting») (s .«false_northing»)))
+made S e s = plain (lambert (laea.new-spherical e (s .lon0) (s .lat0) (s .«false_easting») (s .«false_northing»)))
+made A e s = plain (albers (aea.new e (s .lon0) (s .lat0) (s .lat1) (s .lat2) (s .«false_easting») (s .«false_northing»)))
+made E e s = plain (equal-earth (eqearth.new e (s .lon0) (s .«false_easting») (s .«false_northing»)))
+made C e s = plain (cassini (cass.new e (s .lon0) (s .lat0) (s .«false_easting») (s .«false_northing»)))
+made P e s = let q = poly.new e (s .lon0) (s .lat0) (s .«false_easting») (s .«false_northing») in record { built = polyconic (q .built); en = q .en }
+made G e s = let q = gm.new e (s .lon0) (s .lat0) (s .«false_easting») (s .«false_northing») in record { built = guam (q .built); en = q .en }
 
-unfoldable pub forward : Kind → List Float → Float → Float → Answer
-forward (Lambert p) en lon lat = laea-forward.forward p lon lat
-forward (Albers p) en lon lat = aea.forward p lon lat
-forward (Equal p) en lon lat = eqearth.forward p lon lat
-forward (Cassini p) en lon lat = cass.forward p lon lat
-forward (Polyconic p) en lon lat = poly.forward p en lon lat
-forward (Guam p) en lon lat = gm.forward p en lon lat
+unfoldable pub new : Kind → Ellipsoid → Settings → Projection
+unfolding made
+new k e s = made k e (used k s)
 
--- the formula's place, its longitude not normalised, or a refusal
-unfoldable pub formula : Kind → List Float → Float → Float → Answer
-formula (Lambert p) en x y = laea-inverse.formula p x y
-formula (Albers p) en x y = aea.formula p x y
-formula (Equal p) en x y = eqearth.formula p x y
-formula (Cassini p) en x y = cass.formula p x y
-formula (Polyconic p) en x y = poly.formula p en x y
-formula (Guam p) en x y = gm.formula p en x y
+unfoldable pub forward-of : Built → List Float → Float → Float → Answer
+forward-of (Lambert p) en lon lat = laea-forward.forward p lon lat
+forward-of (Albers p) en lon lat = aea.forward p lon lat
+forward-of (Equal p) en lon lat = eqearth.forward p lon lat
+forward-of (Cassini p) en lon lat = cass.forward p lon lat
+forward-of (Polyconic p) en lon lat = poly.forward p en lon lat
+forward-of (Guam p) en lon lat = gm.forward p en lon lat
+forward-of (Refused n) en lon lat = answered.Refused n
 
-unfoldable pub inverse : Kind → List Float → Float → Float → Answer
+unfoldable pub forward : Projection → Float → Float → Answer
+unfolding forward-of
+forward p lon lat = forward-of (p .built) (p .en) lon lat
+
+-- the place before its longitude is normalised, with 01's "formula's longitude"
+unfoldable pub formula-of : Built → List Float → Float → Float → Answer
+formula-of (Lambert p) en x y = laea-inverse.formula p x y
+formula-of (Albers p) en x y = aea.formula p x y
+formula-of (Equal p) en x y = eqearth.formula p x y
+formula-of (Cassini p) en x y = cass.formula p x y
+formula-of (Polyconic p) en x y = poly.formula p en x y
+formula-of (Guam p) en x y = gm.formula p en x y
+formula-of (Refused n) en x y = answered.Refused n
+
+unfoldable pub formula : Projection → Float → Float → Answer
+unfolding formula-of
+formula p x y = formula-of (p .built) (p .en) x y
+
+unfoldable pub inverse : Projection → Float → Float → Answer
 unfolding formula
-inverse k en x y = finish (formula k en x y)
+inverse p x y = finish (formula p x y)
 
 -- ---- one point, as a line of a sheet asks for it
 
-unfoldable pub on-map : Way → Kind → List Float → Float → Float → Answer
+unfoldable pub answer : Way → Projection → Float → Float → Answer
 unfolding forward inverse
-on-map Forward k en u v = forward k en u v
-on-map Inverse k en u v = inverse k en u v
+answer Forward p u v = forward p u v
+answer Inverse p u v = inverse p u v
 
-unfoldable pub built-answer : Way → BuiltKind → List Float → Float → Float → Answer
-unfolding on-map
-built-answer way (Built k) en u v = on-map way k en u v
-built-answer way (Refused n) en u v = answered.Refused n
-
-unfoldable pub answer : Way → NewProjection → Float → Float → Answer
-unfolding built-answer
-answer way q u v = built-answer way (q .built) (q .en) u v
-
-unfoldable pub refused : ℕ → NewProjection
+-- no projection, and why
+unfoldable pub refused : ℕ → Projection
 refused n = plain (Refused n)
 
 -- a projection on the ellipsoid of a and f: the ellipsoid's checks, then the projection's
-abbrev pub on-ellipsoid : Method → Settings → BuiltEllipsoid → NewProjection
-on-ellipsoid method s (ellipsoid.Built e) = new method e s
-on-ellipsoid method s (ellipsoid.Refused n) = refused n
+abbrev pub on-ellipsoid : Kind → Settings → BuiltEllipsoid → Projection
+on-ellipsoid kind s (ellipsoid.Built e) = new kind e s
+on-ellipsoid kind s (ellipsoid.Refused n) = refused n
 
-unfoldable pub build : Method → Float → Float → Settings → NewProjection
+unfoldable pub build : Kind → Float → Float → Settings → Projection
 unfolding new refused
-build method a f s = on-ellipsoid method s (from-a-f a f)
+build kind a f s = on-ellipsoid kind s (from-a-f a f)
+
+-- 0 where it is built, or the number of its refusal
+unfoldable pub number-of : Built → ℕ
+number-of (Lambert p) = 0
+number-of (Albers p) = 0
+number-of (Equal p) = 0
+number-of (Cassini p) = 0
+number-of (Polyconic p) = 0
+number-of (Guam p) = 0
+number-of (Refused n) = n
+
+unfoldable pub built-number : Projection → ℕ
+unfolding number-of
+built-number p = number-of (p .built)
 
 -- the projection's checks, then the point's
-unfoldable pub project : Way → Method → Float → Float → Settings → Float → Float → Answer
+unfoldable pub project : Way → Kind → Float → Float → Settings → Float → Float → Answer
 unfolding answer build
-project way method a f s u v = answer way (build method a f s) u v
+project way kind a f s u v = answer way (build kind a f s) u v

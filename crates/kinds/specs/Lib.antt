@@ -1,4 +1,3 @@
-pub mod Ascii
-pub mod Letters
 pub mod Kinds
+pub mod Opened
 pub mod Cases

@@ -5,11 +5,10 @@ use Rattle.float.specs.Operators.{_⊕_, _⊖_, _⊗_, _⊘_, _≼_}
 use Rattle.float.specs.Constants.{+0, one, two}
 use Rattle.float.specs.Limits.{max-zero}
 use Rattle.root.specs.Root.{root}
-use Rattle.fixed.specs.Trigonometry.{sine, cosine}
-use Rattle.projection.specs.Refusals.{ANTIPODE}
-use Rattle.projection.specs.Checks.{guard, validate-lon-lat}
-use Rattle.projection.specs.Longitude.{normalize-longitude}
-use Rattle.projection.specs.Authalic.{authalic-q, authalic-latitude}
+use Rattle.trigonometry.specs.Trigonometry.{sine, cosine}
+use Rattle.refusals.specs.Refusals.{ANTIPODE}
+use Rattle.authalic.specs.Authalic.{authalic-q, authalic-latitude}
+use Rattle.projection.specs.Starts.{enter, entered}
 use Rattle.projection.specs.Ends.{ensure-finite-xy}
 use Rattle.projection.specs.declared.Answer.{Answer}
 use Rattle.projection.specs.declared.Answer.the-variants.{Pair, Refused}
@@ -56,8 +55,8 @@ ellipsoidal-forward NorthPolar = north-polar-forward
 ellipsoidal-forward SouthPolar = south-polar-forward
 ellipsoidal-forward Oblique = oblique-forward
 
+unfoldable pub projected : LambertAzimuthalEqualArea → Float → Float → Answer
+projected p d-lon lat = cond (p .spherical) (spherical-forward p d-lon lat) (ellipsoidal-forward (p .aspect) p d-lon (authalic-q lat (p .e2)))
+
 unfoldable pub forward : LambertAzimuthalEqualArea → Float → Float → Answer
-forward p lon lat =
-    let d-lon = normalize-longitude (lon ⊖ p .lon0) in
-    guard (validate-lon-lat lon lat) Refused
-    (cond (p .spherical) (spherical-forward p d-lon lat) (ellipsoidal-forward (p .aspect) p d-lon (authalic-q lat (p .e2))))
+forward p lon lat = entered (λ d-lon. projected p d-lon lat) (enter lon lat (p .lon0))

@@ -5,10 +5,10 @@ use Rattle.float.specs.Operators.{_⊕_, _⊖_, _⊗_, _⊘_, _≺_}
 use Rattle.float.specs.Constants.{one, two}
 use Rattle.float.specs.Limits.{clamp}
 use Rattle.root.specs.Root.{root}
-use Rattle.fixed.specs.Trigonometry.{sine, cosine}
+use Rattle.trigonometry.specs.Trigonometry.{sine, cosine}
 use Rattle.fixed.specs.Arctangent.{arcsine, atan2}
+use Rattle.authalic.specs.Authalic.{geodetic-from-authalic}
 use Rattle.projection.specs.Checks.{guard, validate-projected}
-use Rattle.projection.specs.Authalic.{geodetic-from-authalic}
 use Rattle.projection.specs.Ends.{finish}
 use Rattle.projection.specs.declared.Answer.{Answer}
 use Rattle.projection.specs.declared.Answer.the-variants.{Pair, Refused}
@@ -40,9 +40,9 @@ spherical-formula p dx dy =
 
 -- L about a pole, from q / q at the pole, which is the sine of β, and λ - λ0. At the centre the source takes lat0 for β; Snyder has φ1 for φ.
 unfoldable pub polar-place : LambertAzimuthalEqualArea → Float → Float → Float → Answer
-polar-place p rho q-over-qp d-lon =
+polar-place p rho q-over-q-p d-lon =
     cond (rho ≺ RHO-EPSILON) (Pair (p .lon0) (geodetic-from-authalic (p .lat0) (p .e2)))
-    (Pair (p .lon0 ⊕ d-lon) (geodetic-from-authalic (bounded-arcsine q-over-qp) (p .e2)))
+    (Pair (p .lon0 ⊕ d-lon) (geodetic-from-authalic (bounded-arcsine q-over-q-p) (p .e2)))
 
 -- 24-32 and 20-16
 unfoldable pub north-polar-formula : LambertAzimuthalEqualArea → Float → Float → Answer
@@ -72,12 +72,12 @@ ellipsoidal-formula NorthPolar = north-polar-formula
 ellipsoidal-formula SouthPolar = south-polar-formula
 ellipsoidal-formula Oblique = oblique-formula
 
--- the place, with 01's "formula's longitude"
+unfoldable pub place : LambertAzimuthalEqualArea → Float → Float → Answer
+place p dx dy = cond (p .spherical) (spherical-formula p dx dy) (ellipsoidal-formula (p .aspect) p dx dy)
+
+-- 20, or the place with 01's "formula's longitude"
 unfoldable pub formula : LambertAzimuthalEqualArea → Float → Float → Answer
-formula p x y =
-    let dx = x ⊖ p .«false_easting» in
-    let dy = y ⊖ p .«false_northing» in
-    guard (validate-projected x y) Refused (cond (p .spherical) (spherical-formula p dx dy) (ellipsoidal-formula (p .aspect) p dx dy))
+formula p x y = guard (validate-projected x y) Refused (place p (x ⊖ p .«false_easting») (y ⊖ p .«false_northing»))
 
 unfoldable pub inverse : LambertAzimuthalEqualArea → Float → Float → Answer
 inverse p x y = finish (formula p x y)

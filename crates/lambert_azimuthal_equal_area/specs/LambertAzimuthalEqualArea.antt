@@ -9,12 +9,12 @@ use Rattle.float.specs.Operators.{_⊕_, _⊖_, _⊗_, _⊘_, _≺_, f64}
 use Rattle.float.specs.Constants.{+0, one, two, FRAC-PI-2, ratio}
 use Rattle.float.specs.Sign.{abs}
 use Rattle.root.specs.Root.{root}
-use Rattle.fixed.specs.Trigonometry.{sine, cosine}
+use Rattle.trigonometry.specs.Trigonometry.{sine, cosine}
 use Rattle.ellipsoid.specs.Ellipsoid as Ellipsoids
 use Rattle.ellipsoid.specs.declared.Ellipsoid.{Ellipsoid}
-use Rattle.projection.specs.Refusals.{FALSE-EASTING, FALSE-NORTHING, POLAR-Q, ORIGIN-NEAR-POLE, ORIGIN-SCALE}
-use Rattle.projection.specs.Checks.{or-else, guard, validate-angle, validate-latitude-param, validate-offset}
-use Rattle.projection.specs.Authalic.{authalic-q, authalic-latitude}
+use Rattle.refusals.specs.Refusals.{POLAR-Q, ORIGIN-NEAR-POLE, ORIGIN-SCALE}
+use Rattle.authalic.specs.Authalic.{authalic-q, authalic-latitude}
+use Rattle.projection.specs.Checks.{or-else, guard, validate-settings}
 use Rattle.lambert_azimuthal_equal_area.specs.declared.Aspect.{Aspect}
 use Rattle.lambert_azimuthal_equal_area.specs.declared.Aspect.the-variants.{Oblique, NorthPolar, SouthPolar}
 use Rattle.lambert_azimuthal_equal_area.specs.declared.LambertAzimuthalEqualArea.{LambertAzimuthalEqualArea}
@@ -84,22 +84,24 @@ validate-origin Oblique cos-beta0 = cond (abs cos-beta0 ≺ POLAR-EPSILON) ORIGI
 validate-origin NorthPolar cos-beta0 = 0
 validate-origin SouthPolar cos-beta0 = 0
 
--- the first refusal number, or 0: 6, 7 or 8, 9, 10, 12, 13, 14
+-- what is wrong with the numbers made of the settings: 12, 13, 14, or 0
 unfoldable pub fault : LambertAzimuthalEqualArea → ℕ
 fault p =
-    or-else (validate-angle (p .lon0))
-    (or-else (validate-latitude-param (p .lat0))
-    (or-else (validate-offset (p .«false_easting») FALSE-EASTING)
-    (or-else (validate-offset (p .«false_northing») FALSE-NORTHING)
-    (or-else (validate-positive (p .«q_p») POLAR-Q)
-    (or-else (validate-origin (p .aspect) (p .«cos_beta0»)) (validate-positive (p .d) ORIGIN-SCALE))))))
+    or-else (validate-positive (p .«q_p») POLAR-Q)
+    (or-else (validate-origin (p .aspect) (p .«cos_beta0»)) (validate-positive (p .d) ORIGIN-SCALE))
 
 unfoldable pub checked : LambertAzimuthalEqualArea → BuiltLambertAzimuthalEqualArea
 checked p = guard (fault p) Refused (Built p)
 
+-- 6 to 10, or what the own checks make of what is derived
+unfoldable pub built : Ellipsoid → Float → Float → Float → Float → Bool → BuiltLambertAzimuthalEqualArea
+built ellipsoid lon0 lat0 false-easting false-northing spherical =
+    guard (validate-settings lon0 lat0 +0 +0 false-easting false-northing) Refused
+    (checked (derived ellipsoid lon0 lat0 false-easting false-northing spherical))
+
 unfoldable pub new : Ellipsoid → Float → Float → Float → Float → BuiltLambertAzimuthalEqualArea
-new ellipsoid lon0 lat0 false-easting false-northing = checked (derived ellipsoid lon0 lat0 false-easting false-northing false)
+new ellipsoid lon0 lat0 false-easting false-northing = built ellipsoid lon0 lat0 false-easting false-northing false
 
 -- S: on the sphere of radius Rq, about lat0 itself
 unfoldable pub new-spherical : Ellipsoid → Float → Float → Float → Float → BuiltLambertAzimuthalEqualArea
-new-spherical ellipsoid lon0 lat0 false-easting false-northing = checked (derived ellipsoid lon0 lat0 false-easting false-northing true)
+new-spherical ellipsoid lon0 lat0 false-easting false-northing = built ellipsoid lon0 lat0 false-easting false-northing true

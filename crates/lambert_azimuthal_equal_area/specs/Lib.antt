@@ -1,3 +1,4 @@
 pub mod LambertAzimuthalEqualArea
 pub mod Forward
 pub mod Inverse
+pub mod Opened

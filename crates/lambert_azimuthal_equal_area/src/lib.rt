@@ -1,27 +1,26 @@
 // Lambert Azimuthal Equal Area: 01's kind L, on an ellipsoid, and S, its spherical form.
 ghost use mathlib.Core.Path.{_≡_};
-ghost use Rattle.lambert_azimuthal_equal_area.specs.LambertAzimuthalEqualArea.{aspect-at, scale, derived, validate-positive, validate-origin, fault, checked, new, new-spherical};
+ghost use Rattle.lambert_azimuthal_equal_area.specs.LambertAzimuthalEqualArea.{aspect-at, scale, derived, validate-positive, validate-origin, fault, checked, built, new, new-spherical};
 
 mod forward;
 mod inverse;
+mod oblique;
+mod polar;
+mod spherical;
 
+use authalic::authalic_latitude;
+use authalic::authalic_q;
 use ellipsoid::Ellipsoid;
-use fixed::sin_cos;
 use float::FRAC_PI_2;
 use float::abs;
 use float::is_finite;
-use projection::authalic_latitude;
-use projection::authalic_q;
 use projection::or_else;
-use projection::refusals::FALSE_EASTING;
-use projection::refusals::FALSE_NORTHING;
-use projection::refusals::ORIGIN_NEAR_POLE;
-use projection::refusals::ORIGIN_SCALE;
-use projection::refusals::POLAR_Q;
-use projection::validate_angle;
-use projection::validate_latitude_param;
-use projection::validate_offset;
+use projection::validate_settings;
+use refusals::ORIGIN_NEAR_POLE;
+use refusals::ORIGIN_SCALE;
+use refusals::POLAR_Q;
 use root::root;
+use trigonometry::sin_cos;
 
 pub enum Aspect {
     Oblique,
@@ -81,7 +80,7 @@ impl LambertAzimuthalEqualArea {
     ) -> BuiltLambertAzimuthalEqualArea
         ensures { λ r. ⌜ r ≡ new ellipsoid lon0 lat0 «false_easting» «false_northing» ⌝ }
     {
-        Self::derived(ellipsoid, lon0, lat0, false_easting, false_northing, false).checked()
+        Self::built(ellipsoid, lon0, lat0, false_easting, false_northing, false)
     }
 
     // On the sphere that has the ellipsoid's area.
@@ -94,21 +93,35 @@ impl LambertAzimuthalEqualArea {
     ) -> BuiltLambertAzimuthalEqualArea
         ensures { λ r. ⌜ r ≡ new-spherical ellipsoid lon0 lat0 «false_easting» «false_northing» ⌝ }
     {
-        Self::derived(ellipsoid, lon0, lat0, false_easting, false_northing, true).checked()
+        Self::built(ellipsoid, lon0, lat0, false_easting, false_northing, true)
     }
 
-    fn checked(self) -> BuiltLambertAzimuthalEqualArea
-        ensures { λ r. ⌜ r ≡ checked self ⌝ }
+    fn built(
+        ellipsoid: Ellipsoid,
+        lon0: f64,
+        lat0: f64,
+        false_easting: f64,
+        false_northing: f64,
+        spherical: bool,
+    ) -> BuiltLambertAzimuthalEqualArea
+        ensures { λ r. ⌜ r ≡ built ellipsoid lon0 lat0 «false_easting» «false_northing» spherical ⌝ }
     {
-        let fault = self.fault();
+        let fault = validate_settings(lon0, lat0, 0.0, 0.0, false_easting, false_northing);
         if fault == 0 {
-            BuiltLambertAzimuthalEqualArea::Built(self)
+            Self::derived(
+                ellipsoid,
+                lon0,
+                lat0,
+                false_easting,
+                false_northing,
+                spherical,
+            ).checked()
         } else {
             BuiltLambertAzimuthalEqualArea::Refused(fault)
         }
     }
 
-    // The settings and the numbers made of them, before any check.
+    // The settings and the numbers made of them.
     fn derived(
         ellipsoid: Ellipsoid,
         lon0: f64,
@@ -119,7 +132,7 @@ impl LambertAzimuthalEqualArea {
     ) -> LambertAzimuthalEqualArea
         ensures { λ r. ⌜ r ≡ derived ellipsoid lon0 lat0 «false_easting» «false_northing» spherical ⌝ }
     {
-        let a = ellipsoid.semi_major_axis();
+        let a = ellipsoid.a;
         let e2 = ellipsoid.e2();
         let q_p = authalic_q(FRAC_PI_2, e2);
         let rq = a * root(q_p / 2.0);
@@ -180,28 +193,26 @@ impl LambertAzimuthalEqualArea {
         }
     }
 
-    // The first refusal number, or 0.
+    fn checked(self) -> BuiltLambertAzimuthalEqualArea
+        ensures { λ r. ⌜ r ≡ checked self ⌝ }
+    {
+        let fault = self.fault();
+        if fault == 0 {
+            BuiltLambertAzimuthalEqualArea::Built(self)
+        } else {
+            BuiltLambertAzimuthalEqualArea::Refused(fault)
+        }
+    }
+
+    // What is wrong with the numbers made of the settings: 12, 13, 14, or 0.
     fn fault(self) -> u8
         ensures { λ r. ⌜ r ≡ fault self ⌝ }
     {
-        let lon0 = validate_angle(self.lon0);
-        let lat0 = validate_latitude_param(self.lat0);
-        let easting = validate_offset(self.false_easting, FALSE_EASTING);
-        let northing = validate_offset(self.false_northing, FALSE_NORTHING);
-        let polar_q = validate_positive(self.q_p, POLAR_Q);
         let aspect = self.aspect;
+        let polar_q = validate_positive(self.q_p, POLAR_Q);
         let origin = Self::validate_origin(aspect, self.cos_beta0);
         let scale = validate_positive(self.d, ORIGIN_SCALE);
-        or_else(
-            lon0,
-            or_else(
-                lat0,
-                or_else(
-                    easting,
-                    or_else(northing, or_else(polar_q, or_else(origin, scale))),
-                ),
-            ),
-        )
+        or_else(polar_q, or_else(origin, scale))
     }
 
     // An origin that is not polar has β0 off the pole.

@@ -1,37 +1,45 @@
-// The sheet program: answers the sheet on standard input on standard output.
+// The sheet program: answers the sheet on standard input on standard output. Only reading and writing stand outside a contract.
 ghost use mathlib.Core.Path.{_≡_};
 ghost use lib.ListN.{length};
-use sheet::ROOM;
-use sheet::answer_sheet;
 
-// One byte more than a sheet may have.
-fn input_buffer() -> [u8; 65537]
-    ensures { λ r. ⌜ 65537 ≡ length r ⌝ }
+mod answers;
+mod failure;
+
+use answers::INPUT;
+use answers::answer_input;
+use failure::Failure;
+use failure::MESSAGE;
+use failure::put_message;
+use failure::read_failure;
+use failure::write_failure;
+use sheet::ROOM;
+
+fn input_buffer() -> [u8; INPUT]
+    ensures { λ r. do size ← ⟦INPUT⟧ .entry; ⌜ size ≡ length r ⌝ }
 {
-    [0; 65537]
+    [0; INPUT]
 }
 
-// The longest text that answers a sheet.
 fn output_buffer() -> [u8; ROOM]
-    ensures { λ r. ⌜ 2357757 ≡ length r ⌝ }
+    ensures { λ r. do size ← ⟦ROOM⟧ .entry; ⌜ size ≡ length r ⌝ }
 {
     [0; ROOM]
 }
 
-// A program has no exit status in Rattle, so what could not be written is told on standard error.
-fn write_answers(text: &[u8]) {
-    if !io::write_all(1, text) {
-        io::write_all(2, b"lenthuc: the answers could not be written\n");
-    }
+// A program has no exit status in Rattle, so what failed is told on standard error.
+fn say(failure: Failure) {
+    let mut text: [u8; MESSAGE] = [0; MESSAGE];
+    let n = put_message(&mut text, failure);
+    io::write_all(2, &text[..n]);
 }
 
 // A failed read looks like the end of the input, so the end is read once more.
-fn check_end(n: usize) {
+fn reads_more(n: usize) -> bool {
     let mut next: [u8; 1] = [0; 1];
-    if n < 65537 {
-        if libc::read(0, &mut next) != 0 {
-            io::write_all(2, b"lenthuc: the sheet could not be read to its end\n");
-        }
+    if n < INPUT {
+        libc::read(0, &mut next) != 0
+    } else {
+        false
     }
 }
 
@@ -39,7 +47,7 @@ fn main() {
     let mut input = input_buffer();
     let mut output = output_buffer();
     let n = io::read_full(0, &mut input);
-    check_end(n);
-    let w = answer_sheet(&input[..n], &mut output);
-    write_answers(&output[..w]);
+    say(read_failure(reads_more(n)));
+    let w = answer_input(&input, n, &mut output);
+    say(write_failure(io::write_all(1, &output[..w])));
 }

@@ -5,11 +5,11 @@ ghost use lib.Ieee.Scale.{finite};
 ghost use Rattle.float.specs.Sign.{negative, abs, signum};
 ghost use Rattle.float.specs.Limits.{clamp, max-zero};
 ghost use Rattle.root.specs.Root.{root};
-ghost use Rattle.fixed.specs.Trigonometry.{sine, cosine, tangent};
+ghost use Rattle.trigonometry.specs.Trigonometry.{sine, cosine, tangent};
 ghost use Rattle.fixed.specs.Arctangent.{arctangent, arcsine, atan2};
 ghost use Rattle.fixed.specs.Logarithm.{ln};
 ghost use Rattle.fixed.specs.Powers.{powf-3-2};
-ghost use Rattle.fixed.specs.Turns.{rem-euclid};
+ghost use Rattle.trigonometry.specs.Turns.{rem-euclid};
 
 mod of_ellipsoid;
 mod of_projection;
@@ -33,21 +33,21 @@ pub extern "C" fn probe_root(x: f64) -> f64
 pub extern "C" fn probe_sin(x: f64) -> f64
     ensures { λ r. ⌜ r ≡ sine x ⌝ }
 {
-    fixed::sin(x)
+    trigonometry::sin(x)
 }
 
 #[no_mangle]
 pub extern "C" fn probe_cos(x: f64) -> f64
     ensures { λ r. ⌜ r ≡ cosine x ⌝ }
 {
-    fixed::cos(x)
+    trigonometry::cos(x)
 }
 
 #[no_mangle]
 pub extern "C" fn probe_tan(x: f64) -> f64
     ensures { λ r. ⌜ r ≡ tangent x ⌝ }
 {
-    fixed::tan(x)
+    trigonometry::tan(x)
 }
 
 #[no_mangle]
@@ -89,7 +89,7 @@ pub extern "C" fn probe_powf_3_2(d: f64) -> f64
 pub extern "C" fn probe_rem_euclid(x: f64) -> f64
     ensures { λ r. ⌜ r ≡ rem-euclid x ⌝ }
 {
-    fixed::rem_euclid(x)
+    trigonometry::rem_euclid(x)
 }
 
 #[no_mangle]

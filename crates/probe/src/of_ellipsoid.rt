@@ -2,31 +2,23 @@
 ghost use mathlib.Core.Path.{_≡_};
 ghost use Rattle.ellipsoid.specs.Ellipsoid.{from-a-rf, from-a-f, inverse-flattening, b, e2, e, n, ep2, n-radius, m-radius};
 ghost use Rattle.ellipsoid.specs.Units.{deg-to-rad, rad-to-deg};
-ghost use Rattle.probe.specs.Ellipsoids.{number, of};
-use ellipsoid::BuiltEllipsoid;
+ghost use Rattle.ellipsoid.specs.Results.{built-number};
+ghost use Rattle.probe.specs.Ellipsoids.{of};
 use ellipsoid::Ellipsoid;
-
-fn number(built: BuiltEllipsoid) -> u8
-    ensures { λ r. ⌜ r ≡ number built ⌝ }
-{
-    match built {
-        BuiltEllipsoid::Built(_) => 0,
-        BuiltEllipsoid::Refused(n) => n,
-    }
-}
+use ellipsoid::built_number;
 
 #[no_mangle]
 pub extern "C" fn probe_from_a_rf(a: f64, rf: f64) -> u8
-    ensures { λ r. ⌜ r ≡ number (from-a-rf a rf) ⌝ }
+    ensures { λ r. ⌜ r ≡ built-number (from-a-rf a rf) ⌝ }
 {
-    number(Ellipsoid::from_a_rf(a, rf))
+    built_number(Ellipsoid::from_a_rf(a, rf))
 }
 
 #[no_mangle]
 pub extern "C" fn probe_from_a_f(a: f64, f: f64) -> u8
-    ensures { λ r. ⌜ r ≡ number (from-a-f a f) ⌝ }
+    ensures { λ r. ⌜ r ≡ built-number (from-a-f a f) ⌝ }
 {
-    number(Ellipsoid::from_a_f(a, f))
+    built_number(Ellipsoid::from_a_f(a, f))
 }
 
 #[no_mangle]

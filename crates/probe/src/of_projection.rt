@@ -4,15 +4,15 @@ ghost use Prim.Native.Nat.{_%_};
 ghost use lib.Ieee.{nan};
 ghost use lib.ListN.{getD};
 ghost use Rattle.projection.specs.Checks.{validate-angle, validate-latitude-param, validate-offset, validate-lon-lat, validate-projected};
-ghost use Rattle.projection.specs.Answer.{number};
+ghost use Rattle.projection.specs.Results.{number};
 ghost use Rattle.projection.specs.Ends.{ensure-finite-xy, ensure-finite-lon-lat};
-ghost use Rattle.projection.specs.Refusals.{FALSE-EASTING};
+ghost use Rattle.refusals.specs.Refusals.{FALSE-EASTING};
 ghost use Rattle.projection.specs.Longitude.{normalize-longitude};
-ghost use Rattle.projection.specs.Authalic.{authalic-q, authalic-latitude, geodetic-from-authalic};
-ghost use Rattle.projection.specs.Meridian.{meridian-arc-coefficients, meridian-arc, inverse-meridian-arc};
-use capi::number;
-use projection::meridian_arc_coefficients;
-use projection::refusals::FALSE_EASTING;
+ghost use Rattle.authalic.specs.Authalic.{authalic-q, authalic-latitude, geodetic-from-authalic};
+ghost use Rattle.meridian.specs.Meridian.{meridian-arc-coefficients, meridian-arc, inverse-meridian-arc};
+use meridian::meridian_arc_coefficients;
+use projection::number;
+use refusals::FALSE_EASTING;
 
 #[no_mangle]
 pub extern "C" fn probe_validate_angle(value: f64) -> u8
@@ -75,21 +75,21 @@ pub extern "C" fn probe_normalize_longitude(lon: f64) -> f64
 pub extern "C" fn probe_authalic_q(lat: f64, e2: f64) -> f64
     ensures { λ r. ⌜ r ≡ authalic-q lat e2 ⌝ }
 {
-    projection::authalic_q(lat, e2)
+    authalic::authalic_q(lat, e2)
 }
 
 #[no_mangle]
 pub extern "C" fn probe_authalic_latitude(q: f64, q_p: f64) -> f64
     ensures { λ r. ⌜ r ≡ authalic-latitude q «q_p» ⌝ }
 {
-    projection::authalic_latitude(q, q_p)
+    authalic::authalic_latitude(q, q_p)
 }
 
 #[no_mangle]
 pub extern "C" fn probe_geodetic_from_authalic(beta: f64, e2: f64) -> f64
     ensures { λ r. ⌜ r ≡ geodetic-from-authalic beta e2 ⌝ }
 {
-    projection::geodetic_from_authalic(beta, e2)
+    authalic::geodetic_from_authalic(beta, e2)
 }
 
 #[no_mangle]
@@ -104,12 +104,12 @@ pub extern "C" fn probe_meridian_arc_coefficient(es: f64, i: usize) -> f64
 pub extern "C" fn probe_meridian_arc(phi: f64, sin_phi: f64, cos_phi: f64, es: f64) -> f64
     ensures { λ r. ⌜ r ≡ meridian-arc phi «sin_phi» «cos_phi» (meridian-arc-coefficients es) ⌝ }
 {
-    projection::meridian_arc(phi, sin_phi, cos_phi, meridian_arc_coefficients(es))
+    meridian::meridian_arc(phi, sin_phi, cos_phi, meridian_arc_coefficients(es))
 }
 
 #[no_mangle]
 pub extern "C" fn probe_inverse_meridian_arc(ml: f64, es: f64) -> f64
     ensures { λ r. ⌜ r ≡ inverse-meridian-arc ml (meridian-arc-coefficients es) ⌝ }
 {
-    projection::inverse_meridian_arc(ml, meridian_arc_coefficients(es))
+    meridian::inverse_meridian_arc(ml, meridian_arc_coefficients(es))
 }

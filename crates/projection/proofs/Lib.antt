@@ -1,8 +1,6 @@
-mod FromEnd
 pub mod Refusal
 pub mod Steps
 pub mod Normalising
 pub mod Normalised
 pub mod NormalisingError
 pub mod OnTheMap
-mod Cases

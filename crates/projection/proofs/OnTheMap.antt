@@ -9,9 +9,9 @@ use lib.Dec.{T, ltb, nltb→le, lit≤, lit<}
 use lib.Ieee.{Float, fin, binary64, fits, ofBits}
 use lib.Ieee.Scale.{finite}
 use Rattle.float.specs.Operators.{_≺_}
-use Rattle.float.specs.Constants.{+0, PI, FRAC-PI-2, TURN, LAT-BOUND}
+use Rattle.float.specs.Constants.{+0, PI, FRAC-PI-2, TURN}
 use Rattle.float.specs.Sign.{negative, abs}
-use Rattle.float.specs.Units.{unit-count, units}
+use Rattle.float.specs.Units.{unit-count, in-units}
 use Rattle.float.proofs.NoOverflow.{whole-sum-below}
 use Rattle.float.proofs.Units.{HasUnits, units-finite, units-count}
 use Rattle.float.proofs.SignedUnits.{units-signed, difference-units, abs-units}
@@ -19,9 +19,10 @@ use Rattle.float.proofs.Finite.{Finite, finite-of, count-representable}
 use Rattle.float.proofs.AbsoluteValue.{abs-finite}
 use Rattle.float.proofs.Comparison.{lt-units}
 use Rattle.float.proofs.IntegerDifference.{difference-of, difference-sub, difference-add, difference-mul, difference-abs}
-use Rattle.fixed.specs.Turns.{rem-euclid}
+use Rattle.trigonometry.specs.Turns.{rem-euclid}
+use Rattle.projection.specs.Bound.{LAT-BOUND}
 use Rattle.projection.specs.Longitude.{normalize-longitude, eastern}
-use Rattle.projection.specs.Refusals.{INVERSE-RESULT, INVERSE-BEYOND}
+use Rattle.refusals.specs.Refusals.{INVERSE-RESULT, INVERSE-BEYOND}
 use Rattle.projection.specs.Ends.{ensure-finite-lon-lat}
 use Rattle.projection.specs.OnTheMap.{WITHIN, FAR, Place, OnTheMap}
 use Rattle.projection.specs.declared.Answer.the-variants.{Pair, Refused}
@@ -67,8 +68,8 @@ small-pi : P < 2 ^ (53 + 1023)
 unfolding P unit-count ofBits
 small-pi = lit< tt
 
-near-of : {s : Bool} {M : ℕ} {x r : Float} → Finite binary64 x s M → Run binary64 P s M r → natAbs (units x) ≤ FAR
-    → (k : ℤ) × (natAbs (units x +ℤ k *ℤ units TURN -ℤ units r) ≤ WITHIN)
+near-of : {s : Bool} {M : ℕ} {x r : Float} → Finite binary64 x s M → Run binary64 P s M r → natAbs (in-units x) ≤ FAR
+    → (k : ℤ) × (natAbs (in-units x +ℤ k *ℤ in-units TURN -ℤ in-units r) ≤ WITHIN)
 near-of {s} {M} {x} h w b =
     let M-le : M ≤ FAR = rw (abs-units x, units-count (h .units)) at b in
     let c = close w WITHIN 1032 1024 1023 (turn-pos circle) (small-sum M M-le) small-turn small-pi (lit≤ tt) in

@@ -3,9 +3,9 @@ use mathlib.Core.Bool.{Bool, cond, _&&_}
 use lib.Ieee.{Float}
 use lib.Ieee.Scale.{finite}
 use Rattle.float.specs.Operators.{_≺_}
-use Rattle.float.specs.Constants.{LAT-BOUND}
 use Rattle.float.specs.Sign.{abs}
-use Rattle.projection.specs.Refusals.{FORWARD-RESULT, INVERSE-RESULT, INVERSE-BEYOND}
+use Rattle.refusals.specs.Refusals.{FORWARD-RESULT, INVERSE-RESULT, INVERSE-BEYOND}
+use Rattle.projection.specs.Bound.{LAT-BOUND}
 use Rattle.projection.specs.Longitude.{normalize-longitude}
 use Rattle.projection.specs.declared.Answer.{Answer}
 use Rattle.projection.specs.declared.Answer.the-variants.{Pair, Refused}

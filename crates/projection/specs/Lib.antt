@@ -1,9 +1,9 @@
-pub mod Refusals
-pub mod Answer
+pub mod Bound
+pub mod Results
 pub mod Checks
 pub mod Longitude
+pub mod Starts
 pub mod Ends
 pub mod OnTheMap
 pub mod Iteration
-pub mod Authalic
-pub mod Meridian
+pub mod Opened

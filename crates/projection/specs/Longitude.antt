@@ -3,7 +3,7 @@ use mathlib.Core.Bool.{Bool, cond, _&&_}
 use lib.Ieee.{Float, neg}
 use Rattle.float.specs.Operators.{_⊕_, _⊖_, _≺_, _≈_}
 use Rattle.float.specs.Constants.{+0, PI}
-use Rattle.fixed.specs.Turns.{rem-euclid}
+use Rattle.trigonometry.specs.Turns.{rem-euclid}
 
 -- what comes to -π from the east is π
 unfoldable pub eastern : Float → Float → Float

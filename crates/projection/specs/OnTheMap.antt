@@ -5,8 +5,9 @@ use lib.IntN.{ℤ, natAbs, _+ℤ_, _-ℤ_, _*ℤ_}
 use lib.Dec.{T}
 use lib.Ieee.{Float}
 use lib.Ieee.Scale.{finite}
-use Rattle.float.specs.Constants.{PI, TURN, LAT-BOUND}
-use Rattle.float.specs.Units.{units}
+use Rattle.float.specs.Constants.{PI, TURN}
+use Rattle.float.specs.Units.{in-units}
+use Rattle.projection.specs.Bound.{LAT-BOUND}
 use Rattle.projection.specs.Longitude.{normalize-longitude}
 use Rattle.projection.specs.declared.Answer.{Answer}
 use Rattle.projection.specs.declared.Answer.the-variants.{Pair}
@@ -22,12 +23,12 @@ FAR = 1024 * 2 ^ 1074
 pub record Place (raw lon lat : Float) : Type 0 where
   pub lon-finite : T (finite lon)
   pub lat-finite : T (finite lat)
-  pub lon-bound : natAbs (units lon) ≤ natAbs (units PI)
-  pub lat-bound : natAbs (units lat) ≤ natAbs (units LAT-BOUND)
+  pub lon-bound : natAbs (in-units lon) ≤ natAbs (in-units PI)
+  pub lat-bound : natAbs (in-units lat) ≤ natAbs (in-units LAT-BOUND)
   -- normalising again gives the same bits; so it is never -0
   pub settled : normalize-longitude lon ≡ lon
   -- where raw is at most 1,024 in size, lon is within 2^-42 of it and k whole turns
-  pub near : natAbs (units raw) ≤ FAR → (k : ℤ) × (natAbs (units raw +ℤ k *ℤ units TURN -ℤ units lon) ≤ WITHIN)
+  pub near : natAbs (in-units raw) ≤ FAR → (k : ℤ) × (natAbs (in-units raw +ℤ k *ℤ in-units TURN -ℤ in-units lon) ≤ WITHIN)
 
 -- what is answered is a place on the map, from the formula's longitude and with its latitude
 pub record OnTheMap (formula answer : Answer) : Type 0 where

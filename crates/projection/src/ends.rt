@@ -3,13 +3,13 @@ ghost use mathlib.Core.Path.{_≡_};
 ghost use Rattle.projection.specs.OnTheMap.{OnTheMap};
 ghost use Rattle.projection.specs.Ends.{ensure-finite-xy, ensure-finite-lon-lat, finish};
 use crate::Answer;
+use crate::bound::LAT_BOUND;
 use crate::longitude::normalize_longitude;
-use crate::refusals::FORWARD_RESULT;
-use crate::refusals::INVERSE_BEYOND;
-use crate::refusals::INVERSE_RESULT;
-use float::LAT_BOUND;
 use float::abs;
 use float::is_finite;
+use refusals::FORWARD_RESULT;
+use refusals::INVERSE_BEYOND;
+use refusals::INVERSE_RESULT;
 
 pub fn ensure_finite_xy(x: f64, y: f64) -> Answer
     ensures { λ r. ⌜ r ≡ ensure-finite-xy x y ⌝ }

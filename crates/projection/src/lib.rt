@@ -1,31 +1,37 @@
 // What every projection shares: the part of the source's mod.rs that the seven kinds use.
-mod authalic;
+mod bound;
 mod checks;
 mod ends;
 mod longitude;
-mod meridian;
-pub mod refusals;
+mod results;
+mod starts;
 
-pub use authalic::authalic_latitude;
-pub use authalic::authalic_q;
-pub use authalic::geodetic_from_authalic;
+pub use bound::LAT_BOUND;
 pub use checks::or_else;
 pub use checks::validate_angle;
 pub use checks::validate_latitude_param;
 pub use checks::validate_lon_lat;
 pub use checks::validate_offset;
 pub use checks::validate_projected;
+pub use checks::validate_settings;
 pub use ends::ensure_finite_lon_lat;
 pub use ends::ensure_finite_xy;
 pub use ends::finish;
 pub use longitude::normalize_longitude;
-pub use meridian::inverse_meridian_arc;
-pub use meridian::meridian_arc;
-pub use meridian::meridian_arc_coefficients;
+pub use results::first_result;
+pub use results::number;
+pub use results::second_result;
+pub use starts::enter;
 
 // What a projection answers: a pair of coordinates, or a refusal number.
 pub enum Answer {
     Pair(f64, f64),
+    Refused(u8),
+}
+
+// What the entrance of a forward gives: the longitude from the origin, or a refusal number.
+pub enum Entrance {
+    Passed(f64),
     Refused(u8),
 }
 
@@ -37,7 +43,7 @@ pub enum Step {
 }
 
 // What an iteration gives.
-pub enum Settled {
+pub enum Solution {
     Found(f64),
     Refused(u8),
 }

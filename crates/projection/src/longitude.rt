@@ -1,7 +1,7 @@
 ghost use mathlib.Core.Path.{_≡_};
 ghost use Rattle.projection.specs.Longitude.{normalize-longitude};
-use fixed::rem_euclid;
 use float::PI;
+use trigonometry::rem_euclid;
 
 // The longitude in [-π, π], some whole turns away: π for what comes to -π from the east.
 pub fn normalize_longitude(lon: f64) -> f64

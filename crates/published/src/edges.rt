@@ -1,7 +1,7 @@
 // Document 01's cases that are run only: Albers with parallels 0.5 and -0.5.
-use kinds::Method;
-use kinds::Settings;
-use kinds::Way;
+use letters::Kind;
+use letters::Settings;
+use letters::Way;
 use libc::STDOUT_FILENO;
 use projection::Answer;
 
@@ -15,7 +15,7 @@ fn albers(name: &[u8], way: Way, f: f64) {
         false_easting: 0.0,
         false_northing: 0.0,
     };
-    let answer = kinds::project(way, Method::A, 1.0, f, settings, 0.0, 0.0);
+    let answer = kinds::project(way, Kind::A, 1.0, f, settings, 0.0, 0.0);
     match answer {
         Answer::Pair(_, _) => {
             io::write_all(STDOUT_FILENO, b" answered\n");
@@ -28,7 +28,7 @@ fn albers(name: &[u8], way: Way, f: f64) {
     }
 }
 
-pub fn run() {
+pub(crate) fn run() {
     albers(b"Albers, f = 0, forward:", Way::Forward, 0.0);
     albers(b"Albers, f = 0, inverse:", Way::Inverse, 0.0);
     albers(b"Albers, f = 1/300, forward:", Way::Forward, 1.0 / 300.0);

@@ -3,19 +3,19 @@ use ellipsoid::Ellipsoid;
 use ellipsoid::deg_to_rad;
 use ellipsoid::rad_to_deg;
 use float::abs;
-use kinds::Method;
-use kinds::Settings;
-use kinds::Way;
+use letters::Kind;
+use letters::Settings;
+use letters::Way;
 use libc::STDOUT_FILENO;
 use projection::Answer;
 
 // Longitude and latitude in degrees, or easting and northing.
-pub struct Pair(pub f64, pub f64);
+pub(crate) struct Pair(pub f64, pub f64);
 
 // What a document prints of one point. An answer may be off by half a unit of the last digit that counts: `length` of the
 // easting and northing, `angle`, in degrees, of what the inverse makes of them as printed.
-pub struct Example {
-    pub method: Method,
+pub(crate) struct Example {
+    pub kind: Kind,
     pub ellipsoid: Ellipsoid,
     pub origin: Pair,
     pub parallels: Pair,
@@ -26,12 +26,12 @@ pub struct Example {
     pub angle: f64,
 }
 
-pub const NO_PARALLELS: Pair = Pair(0.0, 0.0);
+pub(crate) const NO_PARALLELS: Pair = Pair(0.0, 0.0);
 
-pub const NO_OFFSETS: Pair = Pair(0.0, 0.0);
+pub(crate) const NO_OFFSETS: Pair = Pair(0.0, 0.0);
 
 // How many answers agree with what is printed, and how many do not.
-pub struct Tally {
+pub(crate) struct Tally {
     pub held: u64,
     pub differ: u64,
 }
@@ -49,8 +49,8 @@ fn project(way: Way, e: Example, u: f64, v: f64) -> Answer {
         false_easting: e.offsets.0,
         false_northing: e.offsets.1,
     };
-    let method = e.method;
-    kinds::project(way, method, e.ellipsoid.a, e.ellipsoid.f, settings, u, v)
+    let kind = e.kind;
+    kinds::project(way, kind, e.ellipsoid.a, e.ellipsoid.f, settings, u, v)
 }
 
 // Whether an answer is within a distance of what is printed; it is written.
@@ -85,7 +85,7 @@ fn refused(tally: Tally, number: u8) -> Tally {
     counted(tally, false, false)
 }
 
-pub fn forward(name: &[u8], e: Example, tally: Tally) -> Tally {
+pub(crate) fn forward(name: &[u8], e: Example, tally: Tally) -> Tally {
     io::write_all(STDOUT_FILENO, name);
     io::write_all(STDOUT_FILENO, b", forward:");
     let lon = deg_to_rad(e.lon_lat.0);
@@ -115,6 +115,6 @@ fn inverse(name: &[u8], e: Example, tally: Tally) -> Tally {
     }
 }
 
-pub fn both_ways(name: &[u8], e: Example, tally: Tally) -> Tally {
+pub(crate) fn both_ways(name: &[u8], e: Example, tally: Tally) -> Tally {
     inverse(name, e, forward(name, e, tally))
 }

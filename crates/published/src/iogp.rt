@@ -7,7 +7,7 @@ use crate::example::both_ways;
 use ellipsoid::CLARKE1866;
 use ellipsoid::Ellipsoid;
 use ellipsoid::GRS80;
-use kinds::Method;
+use letters::Kind;
 
 const HUNDREDTHS: f64 = 0.005;
 
@@ -18,7 +18,7 @@ const ARC: f64 = 0.0005 / 3600.0;
 
 // NAD83 / Great Lakes Albers.
 const ALBERS: Example = Example {
-    method: Method::A,
+    kind: Kind::A,
     ellipsoid: GRS80,
     origin: Pair(-84.455955, 45.568977),
     parallels: Pair(42.122774, 49.01518),
@@ -31,7 +31,7 @@ const ALBERS: Example = Example {
 
 // ETRS89 / LAEA Europe.
 const LAMBERT: Example = Example {
-    method: Method::L,
+    kind: Kind::L,
     ellipsoid: GRS80,
     origin: Pair(10.0, 52.0),
     parallels: NO_PARALLELS,
@@ -44,7 +44,7 @@ const LAMBERT: Example = Example {
 
 // Trinidad 1903 / Trinidad Grid, on Clarke 1858, in Clarke's links.
 const CASSINI: Example = Example {
-    method: Method::C,
+    kind: Kind::C,
     ellipsoid: Ellipsoid {
         a: 31706587.88,
         f: 1.0 / 294.2606764,
@@ -61,7 +61,7 @@ const CASSINI: Example = Example {
 // Guam 1963, Snyder's example too. The point is printed with five decimals of a second; the inverse starts from centimetres,
 // and three count.
 const GUAM: Example = Example {
-    method: Method::G,
+    kind: Kind::G,
     ellipsoid: CLARKE1866,
     origin: Pair(
         144.0 + 44.0 / 60.0 + 55.50254 / 3600.0,
@@ -78,7 +78,7 @@ const GUAM: Example = Example {
     angle: ARC,
 };
 
-pub fn run(tally: Tally) -> Tally {
+pub(crate) fn run(tally: Tally) -> Tally {
     let tally = both_ways(b"IOGP, Albers, Great Lakes", ALBERS, tally);
     let tally = both_ways(b"IOGP, Lambert, Europe", LAMBERT, tally);
     let tally = both_ways(b"IOGP, Cassini, Trinidad", CASSINI, tally);

@@ -7,13 +7,13 @@ use crate::example::Pair;
 use crate::example::Tally;
 use crate::example::forward;
 use ellipsoid::Ellipsoid;
-use kinds::Method;
+use letters::Kind;
 
 const FIVE_DECIMALS: f64 = 0.000005;
 
 // The east end of the equator, on a sphere whose pole has northing 1.
 const EQUATOR: Example = Example {
-    method: Method::E,
+    kind: Kind::E,
     ellipsoid: Ellipsoid {
         a: 1.0 / 1.3173627591574,
         f: 0.0,
@@ -29,7 +29,7 @@ const EQUATOR: Example = Example {
 
 // The east end of a pole line, on a sphere whose equator ends at easting 1.
 const POLE: Example = Example {
-    method: Method::E,
+    kind: Kind::E,
     ellipsoid: Ellipsoid {
         a: 1.0 / 2.70663,
         f: 0.0,
@@ -43,7 +43,7 @@ const POLE: Example = Example {
     angle: 0.0,
 };
 
-pub fn run(tally: Tally) -> Tally {
+pub(crate) fn run(tally: Tally) -> Tally {
     let tally = forward(b"Equal Earth, end of the equator", EQUATOR, tally);
     forward(b"Equal Earth, end of a pole line", POLE, tally)
 }

@@ -9,7 +9,7 @@ use ellipsoid::CLARKE1866;
 use ellipsoid::Ellipsoid;
 use ellipsoid::INTL1924;
 use ellipsoid::UNIT_SPHERE;
-use kinds::Method;
+use letters::Kind;
 
 // Lengths are printed in tenths of a metre, or in 1e-7 of a unit. The inverses start from these rounded lengths, which leave the
 // point open by up to about 3e-6 of a degree: they are held to five decimals, not to the last one printed.
@@ -20,7 +20,7 @@ const SEVEN_DECIMALS: f64 = 0.00000005;
 const FIVE_DECIMALS: f64 = 0.000005;
 
 const ALBERS: Example = Example {
-    method: Method::A,
+    kind: Kind::A,
     ellipsoid: CLARKE1866,
     origin: Pair(-96.0, 23.0),
     parallels: Pair(29.5, 45.5),
@@ -32,7 +32,7 @@ const ALBERS: Example = Example {
 };
 
 const LAMBERT_OBLIQUE: Example = Example {
-    method: Method::L,
+    kind: Kind::L,
     ellipsoid: CLARKE1866,
     origin: Pair(-100.0, 40.0),
     parallels: NO_PARALLELS,
@@ -44,7 +44,7 @@ const LAMBERT_OBLIQUE: Example = Example {
 };
 
 const LAMBERT_POLAR: Example = Example {
-    method: Method::L,
+    kind: Kind::L,
     ellipsoid: INTL1924,
     origin: Pair(-100.0, 90.0),
     parallels: NO_PARALLELS,
@@ -56,7 +56,7 @@ const LAMBERT_POLAR: Example = Example {
 };
 
 const LAMBERT_SPHERE: Example = Example {
-    method: Method::S,
+    kind: Kind::S,
     ellipsoid: Ellipsoid { a: 3.0, f: 0.0 },
     origin: Pair(-100.0, 40.0),
     parallels: NO_PARALLELS,
@@ -68,7 +68,7 @@ const LAMBERT_SPHERE: Example = Example {
 };
 
 const CASSINI: Example = Example {
-    method: Method::C,
+    kind: Kind::C,
     ellipsoid: CLARKE1866,
     origin: Pair(-75.0, 40.0),
     parallels: NO_PARALLELS,
@@ -80,7 +80,7 @@ const CASSINI: Example = Example {
 };
 
 const POLYCONIC: Example = Example {
-    method: Method::P,
+    kind: Kind::P,
     ellipsoid: CLARKE1866,
     origin: Pair(-96.0, 30.0),
     parallels: NO_PARALLELS,
@@ -92,7 +92,7 @@ const POLYCONIC: Example = Example {
 };
 
 const POLYCONIC_SPHERE: Example = Example {
-    method: Method::P,
+    kind: Kind::P,
     ellipsoid: UNIT_SPHERE,
     origin: Pair(-96.0, 30.0),
     parallels: NO_PARALLELS,
@@ -103,7 +103,7 @@ const POLYCONIC_SPHERE: Example = Example {
     angle: FIVE_DECIMALS,
 };
 
-pub fn run(tally: Tally) -> Tally {
+pub(crate) fn run(tally: Tally) -> Tally {
     let tally = both_ways(b"Snyder, Albers", ALBERS, tally);
     let tally = both_ways(b"Snyder, Lambert, oblique", LAMBERT_OBLIQUE, tally);
     let tally = both_ways(b"Snyder, Lambert, polar", LAMBERT_POLAR, tally);

@@ -1,20 +1,29 @@
-ghost use Prim.Native.Nat.{_≤_};
-// The value of a hexadecimal digit, 0 where the byte is none.
-pub fn digit(b: u8) -> u64
-    ensures { λ r. ⌜ r ≤ 15 ⌝ }
-{
-    match b {
-        b'0'..=b'9' => (b - b'0') as u64,
-        b'a'..=b'f' => (b - b'a' + 10) as u64,
-        _ => 0,
+// The parts of a stored line.
+use bytes::scan::find;
+
+// The line without its comment, which starts at `#`, and without the blanks before that.
+pub(crate) fn uncommented(line: &[u8]) -> &[u8] {
+    let mut end = find(line, 0, line.len(), b'#');
+    while 0 < end {
+        if line[end - 1] != b' ' {
+            break;
+        }
+        end -= 1;
     }
+    &line[0..end]
 }
 
-// The number that 16 hexadecimal digits write.
-pub fn number(field: &[u8]) -> u64 {
-    let mut value: u64 = 0;
-    for i in 0..field.len() {
-        value = (value << 4) | digit(field[i]);
+// What stands before the first blank.
+pub(crate) fn question(text: &[u8]) -> &[u8] {
+    let end = find(text, 0, text.len(), b' ');
+    &text[0..end]
+}
+
+// All that stands after that blank.
+pub(crate) fn answer(text: &[u8]) -> &[u8] {
+    let end = find(text, 0, text.len(), b' ');
+    if end < text.len() {
+        return &text[end + 1..];
     }
-    value
+    &text[end..]
 }

@@ -1,105 +1,111 @@
-// Replays the oracle's stored answers with our functions. Standard input has lines of two forms, each ended by byte 10:
-// - 80 bytes: a function's name in 11, then three arguments and the answer, each a blank and 16 hexadecimal digits;
-// - 211 bytes: a value line of a sheet in 173, a blank, and its answer, the number in two digits.
-// The lines of a function, or of a way and kind, stand together. The program writes for each how many of its answers are
-// ours, and first each line whose answer is not.
-mod answer;
+// Replays the oracle's stored answers with our functions. Standard input, of at most a million bytes, has lines of the form
+//
+//     QUESTION ANSWER  # why this line is here
+//
+// where the comment may be left out. What a question may be, and its answer, stands in `question`. The lines of one name, a
+// function's or a way's and kind's, stand together. The program writes for each name how many of its answers are ours, and
+// before that each line whose answer is not ours or whose question it does not understand.
+mod ellipsoids;
+mod functions;
 mod line;
-mod projected;
+mod list;
+mod question;
+mod reply;
 
 ghost use mathlib.Core.Path.{_≡_};
-ghost use Prim.Native.Nat.{_+_, _<_, _≤_};
+ghost use Prim.Native.Nat.{_+_, _≤_};
+ghost use lib.ListN.{length};
+use bytes::scan::find;
+use check::same;
 use libc::STDIN_FILENO;
 use libc::STDOUT_FILENO;
+use line::answer;
+use line::question;
+use line::uncommented;
+use question::name;
+use question::reply;
+use reply::is_said;
+use reply::write_reply;
 
-// Whether it is a line of a sheet.
-fn is_value_line(line: [u8; 211]) -> bool {
-    line[1] == b','
-}
+// One byte more than the input may have.
+const ROOM: usize = 1000001;
 
-// How many bytes name the function, or the way and kind.
-fn name_length(line: [u8; 211]) -> usize
-    ensures { λ r. ⌜ r ≤ 11 ⌝ }
+fn input_buffer() -> [u8; ROOM]
+    ensures { λ r. ⌜ 1000001 ≡ length r ⌝ }
 {
-    if is_value_line(line) { 3 } else { 11 }
+    [0; ROOM]
 }
 
-// Writes `NAME M of N`, for the name at the start of a line. Before the first line there is nothing to write.
-fn report(name: &[u8], agreed: u64, lines: u64) {
-    if lines == 0 {
-        return;
+// Whether the answer on a line is ours; if not, the line is written, and ours.
+fn agrees(line: &[u8]) -> bool {
+    let text = uncommented(line);
+    let ours = reply(question(text));
+    if is_said(answer(text), ours) {
+        return true;
     }
+    io::write_all(STDOUT_FILENO, line);
+    io::write_all(STDOUT_FILENO, b"\n  ours: ");
+    write_reply(ours);
+    io::write_all(STDOUT_FILENO, b"\n");
+    false
+}
+
+// Writes `NAME M of N`.
+fn report(name: &[u8], ours: u64, lines: u64) {
     io::write_all(STDOUT_FILENO, name);
     io::write_all(STDOUT_FILENO, b" ");
-    io::print_decimal(STDOUT_FILENO, agreed);
+    io::print_decimal(STDOUT_FILENO, ours);
     io::write_all(STDOUT_FILENO, b" of ");
     io::print_decimal(STDOUT_FILENO, lines);
     io::write_all(STDOUT_FILENO, b"\n");
 }
 
-// Whether the answer on a line is ours; if not, the line is written, and ours.
-fn agrees(line: [u8; 211]) -> bool {
-    if is_value_line(line) {
-        projected::agrees(line)
-    } else {
-        answer::agrees(line)
-    }
-}
-
-// The count after one more line: from 0 at the first of a function, and up where `more` holds.
-fn counted(n: u64, first: bool, more: bool) -> u64
-    requires { ⌜ n < 1000000 ⌝ }
-    ensures { λ r. ⌜ r ≤ n + 1 ⌝ }
-{
+// The count after one more line, which counts where `more` holds. No input has so many lines that it stops.
+fn counted(n: u64, more: bool) -> u64 {
     if more {
-        if first { 1 } else { n + 1 }
-    } else {
-        if first { 0 } else { n }
+        if n < 1000000 {
+            return n + 1;
+        }
     }
+    n
 }
 
-// The line with its bytes from start to end read, or zeros where there are not so many.
-fn read_part(line: [u8; 211], start: usize, end: usize) -> [u8; 211]
-    requires { ⌜ (start ≤ end) × (end ≤ 211) ⌝ }
+// The line from a place on, without its byte 10.
+fn line_at(input: &[u8], from: usize) -> &[u8]
+    requires { ⌜ from ≤ length (now input) ⌝ }
+    ensures { λ r. ⌜ from + length (now r) ≤ length (now (input .entry)) ⌝ }
 {
-    let mut whole = line;
-    let n = io::read_full(STDIN_FILENO, &mut whole[start..end]);
-    if n < end - start {
-        return [0u8; 211];
-    }
-    whole
+    let end = find(input, from, input.len(), b'\n');
+    &input[from..end]
 }
 
-// The next line, or zeros where there is none.
-fn read_line() -> [u8; 211] {
-    let line = read_part([0u8; 211], 0, 80);
-    if is_value_line(line) {
-        return read_part(line, 80, 211);
+// Goes through the lines. The first of the present name stands at `first`.
+fn replay(input: &[u8]) {
+    let mut first = 0;
+    let mut ours: u64 = 0;
+    let mut lines: u64 = 0;
+    let mut at = 0;
+    while at < input.len() {
+        let line = line_at(input, at);
+        let known = line_at(input, first);
+        if !same(name(line), name(known)) {
+            report(name(known), ours, lines);
+            first = at;
+            ours = 0;
+            lines = 0;
+        }
+        ours = counted(ours, agrees(line));
+        lines = counted(lines, true);
+        at = at + line.len() + 1;
     }
-    line
+    report(name(line_at(input, first)), ours, lines);
 }
 
 fn main() {
-    let mut last = [b' '; 211];
-    let mut agreed: u64 = 0;
-    let mut lines: u64 = 0;
-    let mut turns: u64 = 1000000;
-    while 0 < turns {
-        let line = read_line();
-        if line[0] == 0 {
-            break;
-        }
-        let name = name_length(line);
-        let first = !check::same(&line[0..name], &last[0..name]);
-        if first {
-            let old = name_length(last);
-            report(&last[0..old], agreed, lines);
-        }
-        agreed = counted(agreed, first, agrees(line));
-        lines = counted(lines, first, true);
-        last = line;
-        turns -= 1;
+    let mut input = input_buffer();
+    let n = io::read_full(STDIN_FILENO, &mut input);
+    if n == ROOM {
+        io::write_all(STDOUT_FILENO, b"The input has more than a million bytes.\n");
     }
-    let old = name_length(last);
-    report(&last[0..old], agreed, lines);
+    replay(&input[..n]);
 }

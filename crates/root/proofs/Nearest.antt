@@ -14,7 +14,7 @@ use lib.Ieee.{Float, binary64, fits}
 use lib.Ieee.Positive.{positive, positive-of-value}
 use lib.Ieee.Scale.{finite}
 use Rattle.float.specs.Sign.{negative}
-use Rattle.float.specs.Units.{unit-count, units, signed}
+use Rattle.float.specs.Units.{unit-count, in-units, signed}
 use Rattle.float.proofs.Representable.{Representable, representable-zero}
 use Rattle.float.proofs.Units.{HasUnits, units-finite, units-sign, units-count}
 use Rattle.float.proofs.Finite.{Finite, finite-of}
@@ -81,7 +81,7 @@ result x f p =
     }
 
 pub root-nearest : (x : Float) → T (fits binary64 x) → T (positive x) → Nearest x (root x)
-root-nearest x f p = record { held = o .held; positive = positive-of-value (root x) r (2 ^ 1074) (o .has .value) R; nearer = nearer }
+root-nearest x f p = record { held = o .held; above-zero = positive-of-value (root x) r (2 ^ 1074) (o .has .value) R; nearer = nearer }
   where
     o : Result x
     o = result x f p
@@ -101,7 +101,7 @@ root-nearest x f p = record { held = o .held; positive = positive-of-value (root
     same : unit-count binary64 x * 2 ^ 1074 ≡ w * 4 ^ k
     same = o .scaled .size ∙ o .rooted .size
 
-    nearer : (y : Float) → T (fits binary64 y) → T (finite y) → y ≢ root x → Nearer (unit-count binary64 x * 2 ^ 1074) (units (root x)) (units y)
+    nearer : (y : Float) → T (fits binary64 y) → T (finite y) → y ≢ root x → Nearer (unit-count binary64 x * 2 ^ 1074) (in-units (root x)) (in-units y)
     nearer y g h n =
         let v = finite-of binary64 y g h in
         rw (same, units-signed (o .has), units-signed (v .units))

@@ -1,3 +1,4 @@
 pub mod Root
 pub mod Nearest
+pub mod Opened
 pub mod Vectors

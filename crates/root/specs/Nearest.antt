@@ -7,7 +7,7 @@ use lib.Dec.{T}
 use lib.Ieee.{Float, binary64, fits}
 use lib.Ieee.Positive.{positive}
 use lib.Ieee.Scale.{finite}
-use Rattle.float.specs.Units.{unit-count, units}
+use Rattle.float.specs.Units.{unit-count, in-units}
 
 -- The whole number t is nearest to the root of n: (t - 1/2) ^ 2 < n < (t + 1/2) ^ 2, multiplied out. No whole number is the square of a half.
 pub record NearestWhole (n t : ℕ) : Type 0 where
@@ -33,5 +33,5 @@ pub data Nearer (w : ℕ) (r y : ℤ) : Type 0 where
 -- other finite f64 is farther away, so there is no tie; IEEE 754 rounds to an infinity only from 2 ^ 1024 - 2 ^ 970 on, which no root reaches.
 pub record Nearest (x r : Float) : Type 0 where
   pub held : T (fits binary64 r)
-  pub positive : T (positive r)
-  pub nearer : (y : Float) → T (fits binary64 y) → T (finite y) → y ≢ r → Nearer (unit-count binary64 x * 2 ^ 1074) (units r) (units y)
+  pub above-zero : T (positive r)
+  pub nearer : (y : Float) → T (fits binary64 y) → T (finite y) → y ≢ r → Nearer (unit-count binary64 x * 2 ^ 1074) (in-units r) (in-units y)

@@ -1,6 +1,6 @@
 ghost use Prim.Native.Nat.{_*_, _^_, _<_, _≤_};
-use crate::table::constant;
-use crate::table::slopes;
+use root_table::constant;
+use root_table::slopes;
 
 // a * b, and the bounds that the sums below need.
 pub(crate) fn product(a: u64, b: u64) -> u64
@@ -11,7 +11,7 @@ pub(crate) fn product(a: u64, b: u64) -> u64
 }
 
 // c - t * x, where each is counted in 2^-32.
-fn less(c: u64, t: u64, x: u64) -> u64
+fn minus_product(c: u64, t: u64, x: u64) -> u64
     requires { ⌜ (t < 2 ^ 32) × (x < 2 ^ 32) ⌝ }
     ensures { λ r. ⌜ r < 2 ^ 32 ⌝ }
 {
@@ -27,7 +27,7 @@ pub(crate) fn reciprocal_root(n: u64) -> u64
     let t = (n >> 14) % 0x1_0000_0000;
     let square = product(t, t) >> 32;
     let w = slopes(k as u8);
-    let line = less(constant(k), t, w >> 32);
-    let curve = less(w / 0x2000 % 0x8_0000, t, w % 0x2000);
+    let line = minus_product(constant(k), t, w >> 32);
+    let curve = minus_product(w / 0x2000 % 0x8_0000, t, w % 0x2000);
     (line + (product(curve, square) >> 32)) % 0x1_0000_0000
 }

@@ -2,7 +2,6 @@
 mod digits;
 mod guess;
 mod near;
-mod table;
 
 ghost use mathlib.Core.Path.{_≡_};
 ghost use Prim.Native.Nat.{_*_, _^_, _<_, _≤_};

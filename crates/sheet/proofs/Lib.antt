@@ -1,6 +1,7 @@
 mod Digits
 mod Forms
-mod Lines
+pub mod Lines
 mod Parts
+mod Starts
 pub mod RoundTrip
 pub mod Stores

@@ -2,24 +2,25 @@
 use Prim.Native.Nat.{ℕ, _+_, _-_, _*_, _/_, _%_, _<_, _≤_}
 use mathlib.Core.Path.{_≡_, refl, sym, ap, _∙_}
 use mathlib.Core.List.{List, [], _∷_, _++_}
-use mathlib.Core.Bool.{Bool, true, false, cond, _&&_}
+use mathlib.Core.Bool.{Bool, true, false, cond, _&&_, and-assoc}
 use native.Mathlib.Omega.{arith}
-use borrow.Author.Tests.{eq-eqb, eqb-true, lt-ltb, le-ltb}
+use borrow.Author.Tests.{eq-eqb, eqb-true, lt-ltb, le-ltb, ltb-true, ltb-false}
 use lib.Dec.{eqb, ltb}
 use lib.ListN.{length, take, drop, length-append, length-drop, drop-of-length-le}
-use lib.Seq.{sets, length-sets, sets-eq}
+use lib.Seq.{sets, length-sets, length-take-le, take-all}
 use Rattle.projection.specs.declared.Answer.{Answer}
 use Rattle.projection.specs.declared.Answer.the-variants.{Refused}
-use Rattle.projection.specs.Answer.{number, first-result, second-result}
+use Rattle.projection.specs.Results.{number, first-result, second-result}
 use Rattle.float.specs.Constants.{+0}
-use Rattle.kinds.specs.Ascii.{ascii}
+use Rattle.letters.specs.Ascii.{ascii}
 use Rattle.sheet.specs.Fields.{before, after, joined, fields}
 use Rattle.sheet.specs.ValueLine.{has-form, read-values, read-line}
 use Rattle.sheet.specs.Written.{Written}
 use Rattle.sheet.specs.AnswerLine.{decimal, answer-line}
-use Rattle.sheet.specs.SheetText.{answer, answer-to, lines, body, names, answer-names, same, sheet-text}
+use Rattle.sheet.specs.SheetText.{answer, answer-to, lines, body, names, answer-names, same, limit, sheet-text}
 use Rattle.sheet.specs.declared.value_line.ValueLine.the-variants.{Values, Malformed}
-use Rattle.sheet.proofs.Parts.{end-part, end-after, end-within, fields-few}
+use Rattle.sheet.proofs.Parts.{end-part, end-after, end-within}
+use Rattle.sheet.proofs.Starts.{fields-few}
 use Rattle.sheet.proofs.Stores.{sets-append, one-digit, row-long}
 
 -- ---- the room that an answer takes: 36 bytes for a line of another form, at most 38 for one of 11 bytes and more
@@ -43,7 +44,7 @@ answer-long a = omega (arith, row-long (number a) (first-result a) (second-resul
 
 form-long : (l : List ℕ) → has-form l ≡ true → 11 ≤ length l
 unfolding has-form
-form-long l e = go (eqb (length (fields l)) 12) _ refl e
+form-long l e = go (eqb (length (fields l)) 12) _ refl (simp and-assoc at e)
   where
     go : (a b : Bool) → eqb (length (fields l)) 12 ≡ a → (a && b) ≡ true → 11 ≤ length l
     go true b p q = let n : length (fields l) ≡ 12 = eqb-true _ _ p in omega (arith, fields-few l)
@@ -148,11 +149,11 @@ same-false l m h = go (same l m) refl
     go false e = refl
 
 module _ (s : List ℕ) where
-  pub over : 65536 < length s → sheet-text s ≡ answer-line (Refused 1)
+  pub over : limit < length s → sheet-text s ≡ answer-line (Refused 1)
   unfolding sheet-text
   over h = simp (lt-ltb _ _ h)
 
-  module _ (e : ℕ) (h : length s ≤ 65536) (k : e ≡ 0 + length (before 10 (drop 0 s))) where
+  module _ (e : ℕ) (h : length s ≤ limit) (k : e ≡ 0 + length (before 10 (drop 0 s))) where
     front : take e s ≡ before 10 s
     front = let z : e - 0 ≡ e = omega arith in rw z at (end-part 10 s 0 e (omega arith) k)
 
@@ -172,7 +173,13 @@ module _ (s : List ℕ) where
         simp (le-ltb _ _ h)
         (rw (same-false (before 10 s) names (λ m. let z : true ≡ false = sym (q (front ∙ m)) ∙ p in let y : _≡_ {A = ℕ} 0 1 = cc in omega arith)))
 
--- the names line is copied to the buffer's start
-pub copied : (l₀ l₁ : List ℕ) (w : ℕ) → 9 ≤ length l₀ → w ≡ 9 → l₁ ≡ take 9 answer-names ++ drop 9 l₀ → Written l₀ 0 answer-names w l₁
-unfolding answer-names ascii
-copied l₀ l₁ w h e f = record { place = e; within = omega arith; stored = f ∙ sym (sets-eq answer-names l₀ 0 h) }
+-- one byte over the limit is enough of a sheet
+pub enough : (s : List ℕ) → sheet-text (take (limit + 1) s) ≡ sheet-text s
+enough s = go (ltb limit (length s)) refl
+  where
+    go : (b : Bool) → ltb limit (length s) ≡ b → sheet-text (take (limit + 1) s) ≡ sheet-text s
+    go true e =
+        let h : limit < length s = ltb-true _ _ e in
+        let k : limit < length (take (limit + 1) s) = omega (arith, length-take-le (limit + 1) s (omega arith)) in
+        over (take (limit + 1) s) k ∙ sym (over s h)
+    go false e = let h : length s ≤ limit + 1 = omega (arith, ltb-false limit (length s) e) in rw (take-all (limit + 1) s h)

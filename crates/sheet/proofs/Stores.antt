@@ -3,10 +3,10 @@ use Prim.Native.Nat.{ℕ, zero, suc, _+_, _-_, _/_, _%_, _<_, _≤_}
 use mathlib.Core.Path.{_≡_, refl, sym, ap, _∙_}
 use mathlib.Core.List.{List, [], _∷_, _++_}
 use native.Mathlib.Omega.{arith}
-use native.Mathlib.Nat.{add-zero}
+use native.Mathlib.Nat.{zero-add, add-zero}
 use native.Mathlib.Numerals.{add-one}
-use lib.ListN.{length, set, length-append}
-use lib.Seq.{sets, set-comm, length-sets}
+use lib.ListN.{length, set, take, drop, length-append}
+use lib.Seq.{sets, set-comm, length-sets, sets-eq, take-length}
 use borrow.Author.Tests.{lt-ltb, le-ltb}
 use lib.Ieee.{Float, toBits, binary64}
 use Rattle.sheet.specs.Hex.{glyph, digits}
@@ -51,6 +51,10 @@ then l₀ l₁ l₂ a b at m r f g =
       within = omega (arith, g .within, ap length (f .stored), length-sets l₀ at a);
       stored = rw (g .stored, f .stored, f .place) (sym (sets-append l₀ at a b));
     }
+
+-- a text that is copied to the buffer's start
+pub copied : (t l₀ l₁ : List ℕ) (w : ℕ) → length t ≤ length l₀ → w ≡ length t → l₁ ≡ take (length t) t ++ drop (length t) l₀ → Written l₀ 0 t w l₁
+copied t l₀ l₁ w h e f = record { place = omega arith; within = omega arith; stored = f ∙ rw (take-length t) (sym (sets-eq t l₀ 0 (rw (zero-add (length t)) h) ∙ rw (zero-add (length t)))) }
 
 -- the text lies within what the buffer then is
 pub still-within : (l : List ℕ) (at : ℕ) (t : List ℕ) (r : ℕ) (l' : List ℕ) → Written l at t r l' → r ≤ length l'

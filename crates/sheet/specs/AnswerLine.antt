@@ -5,7 +5,7 @@ use mathlib.Core.Bool.{cond}
 use lib.Dec.{ltb}
 use lib.Ieee.{Float, toBits, binary64}
 use Rattle.projection.specs.declared.Answer.{Answer}
-use Rattle.projection.specs.Answer.{number, first-result, second-result}
+use Rattle.projection.specs.Results.{number, first-result, second-result}
 use Rattle.sheet.specs.Hex.{digits}
 
 -- the decimal digits of a number below 1,000; 48 is the digit 0

@@ -4,10 +4,11 @@ use mathlib.Core.List.{List, [], _∷_, _++_}
 use mathlib.Core.Bool.{Bool, true, false, cond, _&&_}
 use lib.Dec.{ltb, eqb}
 use lib.ListN.{length}
+use Rattle.refusals.specs.Refusals.{SHEET-SIZE, LINE-FORM}
 use Rattle.projection.specs.declared.Answer.{Answer}
 use Rattle.projection.specs.declared.Answer.the-variants.{Refused}
 use Rattle.kinds.specs.Kinds.{project}
-use Rattle.kinds.specs.Ascii.{ascii}
+use Rattle.letters.specs.Ascii.{ascii}
 use Rattle.sheet.specs.Fields.{before, after, joined}
 use Rattle.sheet.specs.ValueLine.{read-line}
 use Rattle.sheet.specs.AnswerLine.{answer-line}
@@ -15,8 +16,8 @@ use Rattle.sheet.specs.declared.value_line.ValueLine.{ValueLine}
 use Rattle.sheet.specs.declared.value_line.ValueLine.the-variants.{Values, Malformed}
 
 abbrev pub answer-to : ValueLine → Answer
-answer-to (Values q) = project (q .way) (q .method) (q .a) (q .f) (q .settings) (q .u) (q .v)
-answer-to Malformed = Refused 2
+answer-to (Values q) = project (q .way) (q .kind) (q .a) (q .f) (q .settings) (q .u) (q .v)
+answer-to Malformed = Refused LINE-FORM
 
 -- the answer to a value line
 unfoldable pub answer : List ℕ → Answer
@@ -44,9 +45,13 @@ same [] (y ∷ m) = false
 same (x ∷ l) [] = false
 same (x ∷ l) (y ∷ m) = eqb x y && same l m
 
--- 1 for a sheet over 65,536 bytes, 2 for another first line (an empty sheet has one): that one line alone.
+-- the most bytes that a sheet may have
+unfoldable pub limit : ℕ
+limit = 65536
+
+-- 1 for a sheet over the limit, 2 for another first line (an empty sheet has one): that one line alone.
 -- Else the names line, and the answers to the lines after the first.
 unfoldable pub sheet-text : List ℕ → List ℕ
 sheet-text s =
-    cond (ltb 65536 (length s)) (answer-line (Refused 1))
-    (cond (same (before 10 s) names) (answer-names ++ body (lines (after 10 s))) (answer-line (Refused 2)))
+    cond (ltb limit (length s)) (answer-line (Refused SHEET-SIZE))
+    (cond (same (before 10 s) names) (answer-names ++ body (lines (after 10 s))) (answer-line (Refused LINE-FORM)))

@@ -1,14 +1,13 @@
-// The fields of a line: the parts between its commas.
+// The fields of a line, the parts between its commas, from left to right.
 ghost use mathlib.Core.Path.{_≡_};
-ghost use Prim.Native.Nat.{_+_, _≤_};
-ghost use lib.ListN.{length, drop};
-ghost use Rattle.sheet.specs.Fields.{before, fields, field};
+ghost use Prim.Native.Nat.{_+_};
+ghost use lib.ListN.{length, take, drop};
+ghost use Rattle.sheet.specs.Fields.{before, field, field-at, field-start, next-start};
 
 const COMMA: u8 = b',';
 
 // Where what stands before the next c ends, from a place on.
 pub(crate) fn end_of(s: &[u8], from: usize, c: u8) -> usize
-    requires { ⌜ from ≤ length (now s) ⌝ }
     ensures { λ r. ⌜ r ≡ from + length (before c (drop from (now (s .entry)))) ⌝ }
 {
     let mut i = from;
@@ -21,32 +20,40 @@ pub(crate) fn end_of(s: &[u8], from: usize, c: u8) -> usize
     i
 }
 
-// The part of the line that holds field i, uncopied; an empty part where the line has no such field.
-pub fn field(line: &[u8], i: usize) -> &[u8]
-    ensures { λ r. ⌜ now r ≡ field (now (line .entry)) i ⌝ }
+// Where the next field starts, after the one that starts at a place. Past the line's end there is none, and the place stays.
+pub(crate) fn next_start(line: &[u8], at: usize) -> usize
+    ensures { λ r. ⌜ r ≡ next-start (now (line .entry)) at ⌝ }
 {
-    let mut start = 0;
-    let mut left = i;
-    while 0 < left {
-        let e = end_of(line, start, COMMA);
-        if e < line.len() {
-            start = e + 1;
-            left = left - 1;
-        } else {
-            return &line[..0];
-        }
+    if line.len() < at {
+        at
+    } else {
+        end_of(line, at, COMMA) + 1
     }
-    let e = end_of(line, start, COMMA);
-    &line[start..e]
 }
 
-// How many commas a line has, one fewer than its fields.
-pub(crate) fn comma_count(line: &[u8]) -> usize
-    ensures { λ r. ⌜ r + 1 ≡ length (fields (now (line .entry))) ⌝ }
+// The part of the line that holds the field that starts at a place; an empty part past the line's end.
+pub(crate) fn part(line: &[u8], at: usize, next: usize) -> &[u8]
+    requires { ⌜ next ≡ next-start (now line) at ⌝ }
+    ensures { λ r. ⌜ now r ≡ field-at (now (line .entry)) at ⌝ }
 {
-    let mut n = 0;
-    for i in 0..line.len() {
-        n += (line[i] == COMMA) as usize;
+    if at < next {
+        &line[at..next - 1]
+    } else {
+        &line[..0]
     }
-    n
+}
+
+// The part of the line that holds field i, uncopied: so many bytes of the line, from the field's start on.
+pub fn field(line: &[u8], i: usize) -> &[u8]
+    ensures { λ r. ⌜ now r ≡ field (now (line .entry)) i ⌝ }
+    ensures { λ r. ⌜ now r ≡ take (length (now r)) (drop (field-start (now (line .entry)) i) (now (line .entry))) ⌝ }
+{
+    let mut start = 0;
+    for _ in 0..i {
+        if line.len() < start {
+            return &line[..0];
+        }
+        start = next_start(line, start);
+    }
+    part(line, start, next_start(line, start))
 }

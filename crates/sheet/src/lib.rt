@@ -8,6 +8,7 @@ mod value_line;
 pub use fields::field;
 pub use hex::Hex;
 pub use hex::read_hex;
+pub use sheet_text::LIMIT;
 pub use sheet_text::ROOM;
 pub use sheet_text::answer;
 pub use sheet_text::answer_sheet;

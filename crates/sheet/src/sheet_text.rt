@@ -8,18 +8,16 @@ use crate::answer_line::put_answer;
 use crate::fields::end_of;
 use crate::value_line::ValueLine;
 use crate::value_line::read_line;
-use kinds::LINE_FORM;
 use kinds::project;
 use projection::Answer;
-
-// Document 01's refusal of a sheet over the limit.
-const OVER_LIMIT: u8 = 1;
+use refusals::LINE_FORM;
+use refusals::SHEET_SIZE;
 
 // The most bytes that a sheet may have.
-const LIMIT: usize = 65536;
+pub const LIMIT: usize = 65536;
 
-// The longest text that answers a sheet: to the names line and 65,493 empty lines.
-pub const ROOM: usize = 2357757;
+// The longest text that answers a sheet: 9 bytes of names, and 36 for each of the empty lines that follow 43 bytes of names.
+pub const ROOM: usize = 9 + 36 * (LIMIT - 43);
 
 // The answer to a value line.
 pub fn answer(line: &[u8]) -> Answer
@@ -28,8 +26,8 @@ pub fn answer(line: &[u8]) -> Answer
     match read_line(line) {
         ValueLine::Values(q) => {
             let way = q.way;
-            let method = q.method;
-            project(way, method, q.a, q.f, q.settings, q.u, q.v)
+            let kind = q.kind;
+            project(way, kind, q.a, q.f, q.settings, q.u, q.v)
         }
         ValueLine::Malformed => Answer::Refused(LINE_FORM),
     }
@@ -51,11 +49,11 @@ fn put_body(input: &[u8], from: usize, out: &mut [u8], at: usize) -> usize
 }
 
 fn put_sheet(input: &[u8], out: &mut [u8]) -> usize
-    requires { ⌜ 2357757 ≤ length (now out) ⌝ }
+    requires { do room ← ⟦ROOM⟧; ⌜ room ≤ length (now out) ⌝ }
     ensures { λ r. ⌜ Written (now (out .entry)) 0 (sheet-text (now (input .entry))) r (now (out .exit)) ⌝ }
 {
     if LIMIT < input.len() {
-        return put_answer(out, 0, Answer::Refused(OVER_LIMIT));
+        return put_answer(out, 0, Answer::Refused(SHEET_SIZE));
     }
     let e = end_of(input, 0, b'\n');
     if check::same(&input[..e], b"way,kind,a,f,lon0,lat0,lat1,lat2,fe,fn,u,v") {

@@ -1,21 +1,19 @@
 // A value line: its form, and what its fields say.
 ghost use mathlib.Core.Path.{_≡_};
-ghost use lib.ListN.{length, drop};
-ghost use Rattle.sheet.specs.Fields.{fields, field};
-ghost use Rattle.sheet.specs.ValueLine.{letter, is-number, number, all-numbers, has-form, read-values, read-line};
-use crate::fields::comma_count;
-use crate::fields::field;
+ghost use Rattle.sheet.specs.ValueLine.{letter-at, number-at, has-form, read-values, read-line};
+use crate::fields::next_start;
+use crate::fields::part;
 use crate::hex::Hex;
 use crate::hex::read_hex;
 use float::f64_of;
-use kinds::Method;
-use kinds::Settings;
-use kinds::Way;
+use letters::Kind;
+use letters::Settings;
+use letters::Way;
 
 // What a value line asks for.
 pub struct Values {
     pub way: Way,
-    pub method: Method,
+    pub kind: Kind,
     pub a: f64,
     pub f: f64,
     pub settings: Settings,
@@ -28,87 +26,113 @@ pub enum ValueLine {
     Malformed,
 }
 
-// The byte of a field of one byte; 0 for any other field.
-fn letter(line: &[u8], i: usize) -> u8
-    ensures { λ r. ⌜ r ≡ letter (field (now (line .entry)) i) ⌝ }
-{
-    let part = field(line, i);
-    if part.len() == 1 { part[0] } else { 0 }
+// A field read as a letter, and where the next one starts.
+struct Letter {
+    byte: u8,
+    next: usize,
 }
 
-fn is_number(line: &[u8], i: usize) -> bool
-    ensures { λ r. ⌜ r ≡ is-number (field (now (line .entry)) i) ⌝ }
+// A field read as a number, and where the next one starts.
+struct Number {
+    good: bool,
+    value: f64,
+    next: usize,
+}
+
+// A line read to its end.
+struct Line {
+    good: bool,
+    values: Values,
+}
+
+// The byte of a field of one byte; 0 for any other field.
+fn read_letter(line: &[u8], at: usize) -> Letter
+    ensures { λ r. ⌜ r ≡ letter-at (now (line .entry)) at ⌝ }
 {
-    match read_hex(field(line, i)) {
-        Hex::Bits(_) => true,
-        Hex::Malformed => false,
+    let next = next_start(line, at);
+    let field = part(line, at, next);
+    if field.len() == 1 {
+        Letter {
+            byte: field[0],
+            next,
+        }
+    } else {
+        Letter { byte: 0, next }
     }
 }
 
 // The f64 of a field; +0 where it is no number.
-fn number(line: &[u8], i: usize) -> f64
-    ensures { λ r. ⌜ r ≡ number (field (now (line .entry)) i) ⌝ }
+fn read_number(line: &[u8], at: usize) -> Number
+    ensures { λ r. ⌜ r ≡ number-at (now (line .entry)) at ⌝ }
 {
-    match read_hex(field(line, i)) {
-        Hex::Bits(bits) => f64_of(bits),
-        Hex::Malformed => 0.0,
+    let next = next_start(line, at);
+    match read_hex(part(line, at, next)) {
+        Hex::Bits(bits) => Number {
+            good: true,
+            value: f64_of(bits),
+            next,
+        },
+        Hex::Malformed => Number {
+            good: false,
+            value: 0.0,
+            next,
+        },
     }
 }
 
-// Whether the ten fields after the letters are numbers, used or not.
-fn all_numbers(line: &[u8]) -> bool
-    requires { ⌜ 12 ≡ length (fields (now line)) ⌝ }
-    ensures { λ r. ⌜ r ≡ all-numbers (drop 2 (fields (now (line .entry)))) ⌝ }
+// Each field is read once, in the line's order. A line has the form if its letters are letters of a sheet, the others are
+// numbers, used or not, and no field is left.
+fn read_fields(line: &[u8]) -> Line
+    ensures good { λ r. ⌜ r .good ≡ has-form (now (line .entry)) ⌝ }
+    ensures values { λ r. ⌜ r .values ≡ read-values (now (line .entry)) ⌝ }
 {
-    for i in 2..12 {
-        if is_number(line, i) {} else {
-            return false;
-        }
-    }
-    true
-}
-
-fn has_form(line: &[u8]) -> bool
-    ensures { λ r. ⌜ r ≡ has-form (now (line .entry)) ⌝ }
-{
-    if comma_count(line) != 11 {
-        return false;
-    }
-    if kinds::is_way(letter(line, 0)) {
-        if kinds::is_kind(letter(line, 1)) {
-            return all_numbers(line);
-        }
-    }
-    false
-}
-
-fn read_values(line: &[u8]) -> Values
-    ensures { λ r. ⌜ r ≡ read-values (now (line .entry)) ⌝ }
-{
+    let way = read_letter(line, 0);
+    let kind = read_letter(line, way.next);
+    let a = read_number(line, kind.next);
+    let f = read_number(line, a.next);
+    let lon0 = read_number(line, f.next);
+    let lat0 = read_number(line, lon0.next);
+    let lat1 = read_number(line, lat0.next);
+    let lat2 = read_number(line, lat1.next);
+    let easting = read_number(line, lat2.next);
+    let northing = read_number(line, easting.next);
+    let u = read_number(line, northing.next);
+    let v = read_number(line, u.next);
+    let letters = letters::is_way(way.byte) & letters::is_kind(kind.byte);
+    let ellipsoid = a.good & f.good;
+    let origin = lon0.good & lat0.good;
+    let parallels = lat1.good & lat2.good;
+    let offsets = easting.good & northing.good;
+    let point = u.good & v.good;
+    let numbers = ellipsoid & origin & parallels & offsets & point;
+    let good = letters & numbers & (line.len() < v.next);
     let settings = Settings {
-        lon0: number(line, 4),
-        lat0: number(line, 5),
-        lat1: number(line, 6),
-        lat2: number(line, 7),
-        false_easting: number(line, 8),
-        false_northing: number(line, 9),
+        lon0: lon0.value,
+        lat0: lat0.value,
+        lat1: lat1.value,
+        lat2: lat2.value,
+        false_easting: easting.value,
+        false_northing: northing.value,
     };
-    Values {
-        way: kinds::way_of(letter(line, 0)),
-        method: kinds::method_of(letter(line, 1)),
-        a: number(line, 2),
-        f: number(line, 3),
+    let values = Values {
+        way: letters::way_of(way.byte),
+        kind: letters::kind_of(kind.byte),
+        a: a.value,
+        f: f.value,
         settings,
-        u: number(line, 10),
-        v: number(line, 11),
-    }
+        u: u.value,
+        v: v.value,
+    };
+    Line { good, values }
 }
 
 pub fn read_line(line: &[u8]) -> ValueLine
     ensures { λ r. ⌜ r ≡ read-line (now (line .entry)) ⌝ }
 {
-    if has_form(line) {
-        ValueLine::Values(read_values(line))
+    let read = read_fields(line);
+    let values = read.values;
+    if read.good {
+        ValueLine::Values(values)
     } else {
         ValueLine::Malformed
     }

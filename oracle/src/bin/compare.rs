@@ -2,7 +2,7 @@
 //! pattern: `compare [PATTERNS]`, ten million a function if none is named. Ends in 1 where any
 //! differs. It counts where the platform's functions would answer otherwise.
 
-use oracle::functions::{Arguments, FUNCTIONS, Function, MACHINE, PARTS};
+use oracle::functions::{Arguments, ELLIPSOID, FUNCTIONS, Function, MACHINE, PARTS};
 use oracle::patterns::{Patterns, edge_arguments};
 use std::process::ExitCode;
 
@@ -18,8 +18,9 @@ fn main() -> ExitCode {
     };
     let machine = total(&MACHINE, count);
     println!("the machine's root and remainder against whole numbers: {machine} differences");
-    let differences = total(&FUNCTIONS, count) + total(&PARTS, count);
-    let functions = FUNCTIONS.len() + PARTS.len();
+    let lists = [&FUNCTIONS[..], &ELLIPSOID, &PARTS];
+    let differences: usize = lists.iter().map(|list| total(list, count)).sum();
+    let functions: usize = lists.iter().map(|list| list.len()).sum();
     println!("{functions} functions compared, {differences} differences");
     ExitCode::from(u8::from(machine + differences > 0))
 }

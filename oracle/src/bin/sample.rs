@@ -1,52 +1,112 @@
-//! Writes the answers that crates/replay replays, in its two forms: of a function a line of 80
-//! bytes, the name in 11, three arguments and the answer of 01's function; of a kind a line of 211,
-//! a value line of a sheet and its answer by the source with 01's functions.
+//! Writes the answers that crates/replay replays, of 01's functions and of the source with these: of
+//! functions, of the ellipsoid's numbers, constructors and names, and of value lines of each kind.
 
 use oracle::cases::{cases, numbers};
-use oracle::functions::{Arguments, FUNCTIONS, Function};
+use oracle::ellipsoids::{CONSTRUCTORS, Constructor, NAMED, named_arguments};
+use oracle::functions::{Arguments, ELLIPSOID, FUNCTIONS, Function, Takes};
 use oracle::line::{KINDS, Line, WAYS};
 use oracle::lines::{Lines, Sort};
 use oracle::patterns::{Patterns, SPECIALS, edge_arguments};
+use oracle::sharp::sharp;
 use oracle::source::fixed::door::answer;
+use oracle::source::fixed::parts::axes;
+use oracle::stored::{Stored, question};
 
 /// So many lines are tried for a number.
 const MOST: usize = 1_000_000;
 
 fn main() {
-    for function in &FUNCTIONS {
-        for arguments in chosen(function) {
-            let [a, b, c, _] = arguments;
-            let answer = (function.expected)(arguments);
-            println!(
-                "{:11} {a:016x} {b:016x} {c:016x} {answer:016x}",
-                function.name
-            );
-        }
-    }
-    for kind in KINDS {
-        for way in WAYS {
-            for line in lines(way, kind) {
-                println!("{} {:0>36}", line.text(), answer(&line).text());
-            }
-        }
+    let ways = KINDS.iter().flat_map(|&kind| WAYS.map(|way| (way, kind)));
+    let stored = FUNCTIONS
+        .iter()
+        .chain(&ELLIPSOID)
+        .flat_map(of_function)
+        .chain(CONSTRUCTORS.iter().flat_map(of_constructor))
+        .chain(named())
+        .chain(ways.flat_map(|(way, kind)| of_kind(way, kind)));
+    for line in stored {
+        println!("{line}");
     }
 }
 
-/// The edges of one argument, the specials of two, and then random patterns up to a round number.
-fn chosen(function: &Function) -> Vec<Arguments> {
-    let (mut list, count) = match function.takes.count() {
-        1 => (edge_arguments(function.takes), 160),
-        2 => (special_pairs(), 320),
-        _ => (Vec::new(), 320),
+fn of_function(function: &Function) -> Vec<Stored> {
+    let count = function.takes.count();
+    let stored = |(arguments, why): (Arguments, _)| Stored {
+        question: question(function.name, &arguments[..count]),
+        answer: format!("{:016x}", (function.expected)(arguments)),
+        why,
     };
+    chosen(function).into_iter().map(stored).collect()
+}
+
+fn of_constructor(constructor: &Constructor) -> Vec<Stored> {
+    let count = constructor.takes.count();
+    let stored = |arguments: Arguments| Stored {
+        question: question(constructor.name, &arguments[..count]),
+        answer: (constructor.built)(arguments).text(),
+        why: "",
+    };
+    let mut list = constructor.edge_arguments();
     let mut patterns = Patterns::new(2);
-    list.resize_with(count, || patterns.arguments(function.takes));
+    list.resize_with(lines_of(constructor.takes), || {
+        patterns.arguments(constructor.takes)
+    });
+    list.into_iter().map(stored).collect()
+}
+
+fn named() -> impl Iterator<Item = Stored> {
+    NAMED.into_iter().map(|(name, ellipsoid)| Stored {
+        question: name.to_owned(),
+        answer: axes(ellipsoid).text(),
+        why: "",
+    })
+}
+
+fn of_kind(way: u8, kind: u8) -> Vec<Stored> {
+    let others = lines(way, kind).into_iter().map(|line| (line, ""));
+    let sharp = sharp()
+        .into_iter()
+        .filter(|(line, _)| (line.way, line.kind) == (way, kind));
+    let stored = |(line, why): (Line, _)| Stored {
+        question: line.text(),
+        answer: answer(&line).text(),
+        why,
+    };
+    others.chain(sharp).map(stored).collect()
+}
+
+/// The named ellipsoids, the edges of one argument and the specials of two, and then random patterns
+/// up to a round number.
+fn chosen(function: &Function) -> Vec<(Arguments, &'static str)> {
+    let takes = function.takes;
+    let mut list = match takes {
+        Takes::Ellipsoid(count) => named_arguments(count),
+        _ => Vec::new(),
+    };
+    let edges = match takes.count() {
+        1 => edge_arguments(takes),
+        2 => special_pairs(takes),
+        _ => Vec::new(),
+    };
+    list.extend(edges.into_iter().map(|arguments| (arguments, "")));
+    let mut patterns = Patterns::new(2);
+    list.resize_with(lines_of(takes), || (patterns.arguments(takes), ""));
     list
 }
 
-fn special_pairs() -> Vec<Arguments> {
+/// So many lines are stored of a function.
+fn lines_of(takes: Takes) -> usize {
+    match takes {
+        Takes::Ellipsoid(count) => 40 * count,
+        Takes::Any(1) => 160,
+        _ => 320,
+    }
+}
+
+fn special_pairs(takes: Takes) -> Vec<Arguments> {
     let pairs = |a| SPECIALS.map(|b| [a, b, 0, 0]);
-    SPECIALS.into_iter().flat_map(pairs).collect()
+    let all = SPECIALS.into_iter().flat_map(pairs);
+    all.filter(|pair| takes.admits(pair)).collect()
 }
 
 /// The cases of 01 and READINGS, lines that are answered, and some for each number that the kind

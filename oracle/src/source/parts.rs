@@ -4,6 +4,7 @@ use super::door::number;
 use super::ellipsoid::{self, Ellipsoid};
 use super::error::Result;
 use super::projection;
+use crate::line::Answer;
 
 fn refusal<V>(result: Result<V>) -> u8 {
     result.err().map_or(0, number)
@@ -13,12 +14,34 @@ fn ellipsoid(a: f64, f: f64) -> Ellipsoid {
     Ellipsoid::from_a_f(a, f).ok().expect("an ellipsoid")
 }
 
+/// An ellipsoid as an answer: its a and f.
+pub fn axes(ellipsoid: Ellipsoid) -> Answer {
+    Answer::pair(ellipsoid.semi_major_axis(), ellipsoid.flattening())
+}
+
+/// What a constructor answers.
+fn built(result: Result<Ellipsoid>) -> Answer {
+    result.map_or_else(|error| Answer::refused(number(error)), axes)
+}
+
+pub fn built_from_a_rf(a: f64, rf: f64) -> Answer {
+    built(Ellipsoid::from_a_rf(a, rf))
+}
+
+pub fn built_from_a_f(a: f64, f: f64) -> Answer {
+    built(Ellipsoid::from_a_f(a, f))
+}
+
+pub fn built_sphere(radius: f64) -> Answer {
+    built(Ellipsoid::sphere(radius))
+}
+
 pub fn from_a_rf(a: f64, rf: f64) -> u8 {
-    refusal(Ellipsoid::from_a_rf(a, rf))
+    built_from_a_rf(a, rf).number
 }
 
 pub fn from_a_f(a: f64, f: f64) -> u8 {
-    refusal(Ellipsoid::from_a_f(a, f))
+    built_from_a_f(a, f).number
 }
 
 pub fn inverse_flattening(a: f64, f: f64) -> f64 {

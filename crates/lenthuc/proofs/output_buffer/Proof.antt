@@ -9,4 +9,4 @@ filled : (n a : ℕ) → n ≡ length (replicate n a)
 filled n a = sym (length-replicate n a)
 
 pub output-buffer-spec : {M : Type 1} → statement M
-output-buffer-spec = tie.close (tie.spec (λ c. filled 2357757 0))
+output-buffer-spec = tie.close (tie.spec (λ c. filled _ 0))

@@ -1,6 +1,5 @@
 -- The branches are the definition's.
 use Rattle.albers_equal_area.specs.AlbersEqualArea.{cone-constant}
-use borrow.Author.Needs.{needs}
 use Rattle.albers_equal_area.proofs.AlbersEqualArea.cone_constant.Statement.{statement}
 use Rattle.albers_equal_area.proofs.AlbersEqualArea.cone_constant.Tie as tie
 
@@ -8,4 +7,4 @@ pub cone-constant-spec : {M : Type 1} → statement M
 unfolding cone-constant
 cone-constant-spec =
     tie.close
-    (tie.spec (λ c κs. search needs) (λ c κs. search needs) (λ c. simp (← c .sin .ensures, ← c .before .before .abs .ensures, c .before .if1 .taken)) (λ c. simp (← c .before .abs .ensures, c .if1 .left)))
+    (tie.spec (λ c κs. tt) (λ c κs. tt) (λ c. simp (← c .sin .ensures, ← c .before .before .abs .ensures, c .before .if1 .taken)) (λ c. simp (← c .before .abs .ensures, c .if1 .left)))

@@ -1,12 +1,13 @@
--- The refusal, or else the callees' results.
+-- Arm by arm: the refusal, or the callees' results.
 use Rattle.albers_equal_area.specs.AlbersEqualArea.{forward}
-use Rattle.projection.proofs.Refusal.{passes, refuses}
-use borrow.Author.Needs.{needs}
+use Rattle.projection.specs.Starts.{entered}
 use Rattle.albers_equal_area.proofs.AlbersEqualArea.forward.Statement.{statement}
 use Rattle.albers_equal_area.proofs.AlbersEqualArea.forward.Tie as tie
 
 pub forward-spec : {M : Type 1} → statement M
-unfolding forward
+unfolding forward entered
 forward-spec =
     tie.close
-    (tie.spec (λ c κs. search needs) (λ c κs. search needs) (λ c κs. search needs) (λ c κs. search needs) (λ c κs. search needs) (λ c. passes _ _ _ (c .before .before .before .before .before .before .if1 .taken) (cc) (cc)) (λ c. refuses _ _ _ (c .if1 .left) (cc)))
+    (tie.spec (λ c κs. tt) (λ c. c .match .keys1) (λ c κs. tt) (λ c. c .match .keys2)
+    (λ c. let arm = c .before .before in rw (← (arm .before .before .enter .ensures), arm .d-lon .given .1) (c .projected .ensures))
+    (λ c. rw (← (c .before .before .before .enter .ensures), c .before .number .given .1)))

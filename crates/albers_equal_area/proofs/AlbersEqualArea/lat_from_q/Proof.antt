@@ -19,4 +19,4 @@ pub lat-from-q-spec : {M : Type 1} → statement M
 unfolding lat-from-q
 lat-from-q-spec =
     tie.close
-    (tie.spec Inv-loop μ-loop (λ c κs. search needs) (λ c. (search needs, rw (c .asin .ensures))) (λ c κs. search needs) (λ c κs. search needs) (λ c. converged _ _ _ _ (c .before .before .before .before .loop .inv .1) (c .before .before .before .loop-test .taken) (c .before .before .latitude-round .ensures) (c .before .abs .ensures) (c .if1 .taken)) (λ c. omega arith) (λ c. omega arith) (λ c. (omega arith, one-round _ _ _ _ (c .before .before .before .before .loop .inv .1) (c .before .before .before .loop-test .taken) (c .before .before .latitude-round .ensures) (c .before .abs .ensures) (c .if1 .left))) (λ c. rounds-used-up _ _ _ _ _ (c .before .loop .inv .1) (c .loop-test .left)))
+    (tie.spec Inv-loop μ-loop (λ c κs. tt) (λ c. (search needs, rw (c .asin .ensures))) (λ c κs. tt) (λ c κs. tt) (λ c. converged _ _ _ _ (c .before .before .before .before .loop .inv .1) (c .before .before .before .loop-test .taken) (c .before .before .latitude-round .ensures) (c .before .abs .ensures) (c .if1 .taken)) (λ c. omega arith) (λ c. omega arith) (λ c. (omega arith, one-round _ _ _ _ (c .before .before .before .before .loop .inv .1) (c .before .before .before .loop-test .taken) (c .before .before .latitude-round .ensures) (c .before .abs .ensures) (c .if1 .left))) (λ c. rounds-used-up _ _ _ _ _ (c .before .loop .inv .1) (c .loop-test .left)))

@@ -1,7 +1,6 @@
--- The refusals in their order, or else the same numbers.
-use Rattle.american_polyconic.specs.AmericanPolyconic.{built}
+-- The settings' refusal, or else what is derived.
 use Rattle.projection.proofs.Refusal.{passes, refuses}
-use borrow.Author.Needs.{needs}
+use Rattle.american_polyconic.specs.AmericanPolyconic.{built}
 use Rattle.american_polyconic.proofs.AmericanPolyconic.built.Statement.{statement}
 use Rattle.american_polyconic.proofs.AmericanPolyconic.built.Tie as tie
 
@@ -9,4 +8,6 @@ pub built-spec : {M : Type 1} → statement M
 unfolding built
 built-spec =
     tie.close
-    (tie.spec (λ c κs. search needs) (λ c κs. search needs) (λ c κs. search needs) (λ c κs. search needs) (λ c κs. search needs) (λ c κs. search needs) (λ c κs. search needs) (λ c κs. search needs) (λ c κs. search needs) (λ c. passes _ _ _ (c .before .before .if1 .taken) (cc) (cc)) (λ c. refuses _ _ _ (c .if1 .left) (cc)))
+    (tie.spec (λ c κs. tt) (λ c κs. tt)
+    (λ c. passes _ _ _ (c .before .if1 .taken) (c .before .before .validate-settings .ensures) (rw (c .derived .ensures)))
+    (λ c. refuses _ _ _ (c .if1 .left) (c .before .validate-settings .ensures)))

@@ -1,7 +1,6 @@
 -- 20, or else the place.
 use Rattle.american_polyconic.specs.AmericanPolyconic.{formula}
 use Rattle.projection.proofs.Refusal.{passes, refuses}
-use borrow.Author.Needs.{needs}
 use Rattle.american_polyconic.proofs.AmericanPolyconic.formula.Statement.{statement}
 use Rattle.american_polyconic.proofs.AmericanPolyconic.formula.Tie as tie
 
@@ -9,4 +8,9 @@ pub formula-spec : {M : Type 1} → statement M
 unfolding formula
 formula-spec =
     tie.close
-    (tie.spec (λ c κs. search needs) (λ c κs. search needs) (λ c κs. search needs) (λ c. passes _ _ _ (c .before .before .before .before .if1 .taken) (cc) (cc)) (λ c. refuses _ _ _ (c .if1 .left) (cc)))
+    (tie.spec (λ c κs. tt) (λ c κs. tt) (λ c κs. tt)
+    (λ c.
+    let test = c .before .before .before .before in
+    passes _ _ _ (test .if1 .taken) (test .before .validate-projected .ensures)
+    (rw (← (c .before .ordinate .ensures)) (c .place .ensures)))
+    (λ c. refuses _ _ _ (c .if1 .left) (c .before .validate-projected .ensures)))

@@ -1,12 +1,13 @@
--- The refusals, or else the form that e² chooses.
+-- Arm by arm: the formulas' point, or the refusal.
+use Rattle.projection.specs.Starts.{entered}
 use Rattle.american_polyconic.specs.AmericanPolyconic.{forward}
-use Rattle.projection.proofs.Refusal.{passes, refuses}
-use borrow.Author.Needs.{needs}
 use Rattle.american_polyconic.proofs.AmericanPolyconic.forward.Statement.{statement}
 use Rattle.american_polyconic.proofs.AmericanPolyconic.forward.Tie as tie
 
 pub forward-spec : {M : Type 1} → statement M
-unfolding forward
+unfolding forward entered
 forward-spec =
     tie.close
-    (tie.spec (λ c κs. search needs) (λ c κs. search needs) (λ c κs. search needs) (λ c κs. search needs) (λ c. passes _ _ _ (c .before .before .before .before .before .if1 .taken) (cc) (rw (c .before .if2 .taken) cc)) (λ c. passes _ _ _ (c .before .before .before .before .before .if1 .taken) (cc) (rw (c .before .if2 .left) cc)) (λ c. refuses _ _ _ (c .if1 .left) (cc)))
+    (tie.spec (λ c κs. tt) (λ c. c .match .keys1) (λ c κs. tt) (λ c. c .match .keys2)
+    (λ c. let arm = c .before .before in rw (← (arm .before .before .enter .ensures), arm .d-lon .given .1) (c .projected .ensures))
+    (λ c. let arm = c .before in rw (← (arm .before .before .enter .ensures), arm .n .given .1)))

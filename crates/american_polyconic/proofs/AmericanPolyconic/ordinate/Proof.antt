@@ -5,4 +5,7 @@ use Rattle.american_polyconic.proofs.AmericanPolyconic.ordinate.Tie as 
 
 pub ordinate-spec : {M : Type 1} → statement M
 unfolding ordinate
-ordinate-spec = tie.close (tie.spec (λ c. simp (c .before .before .before .if1 .taken)) (λ c. simp (c .before .before .before .if1 .left)))
+ordinate-spec =
+    tie.close
+    (tie.spec (λ c. rw (c .before .before .before .if1 .taken))
+    (λ c. rw (c .before .before .before .if1 .left)))

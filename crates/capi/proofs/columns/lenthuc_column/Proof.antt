@@ -17,4 +17,4 @@ returns c =
 pub lenthuc-column-spec : {M : Type 1} → statement M
 lenthuc-column-spec =
     tie.close
-    (tie.spec (λ c κs. search needs) (λ c κs. search needs) fill-requires (λ c. search needs) (λ c. search needs) (λ c. search needs) returns (λ c. kept _ _ _ _ _ _ (c .if1 .left)))
+    (tie.spec (λ c κs. tt) (λ c κs. tt) fill-requires (λ c. search needs) (λ c. search needs) (λ c. search needs) returns (λ c. kept _ _ _ _ _ _ (c .if1 .left)))

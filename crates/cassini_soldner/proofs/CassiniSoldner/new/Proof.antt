@@ -1,7 +1,6 @@
--- The refusals in their order, or else what is built.
-use Rattle.cassini_soldner.specs.CassiniSoldner.{new}
+-- The settings' refusal, or else what is derived.
 use Rattle.projection.proofs.Refusal.{passes, refuses}
-use borrow.Author.Needs.{needs}
+use Rattle.cassini_soldner.specs.CassiniSoldner.{new}
 use Rattle.cassini_soldner.proofs.CassiniSoldner.new.Statement.{statement}
 use Rattle.cassini_soldner.proofs.CassiniSoldner.new.Tie as tie
 
@@ -9,4 +8,6 @@ pub new-spec : {M : Type 1} → statement M
 unfolding new
 new-spec =
     tie.close
-    (tie.spec (λ c κs. search needs) (λ c κs. search needs) (λ c κs. search needs) (λ c κs. search needs) (λ c κs. search needs) (λ c κs. search needs) (λ c κs. search needs) (λ c κs. search needs) (λ c. passes _ _ _ (c .before .if1 .taken) (cc) (cc)) (λ c. refuses _ _ _ (c .if1 .left) (cc)))
+    (tie.spec (λ c κs. tt) (λ c κs. tt)
+    (λ c. passes _ _ _ (c .before .if1 .taken) (c .before .before .validate-settings .ensures) (rw (c .derived .ensures)))
+    (λ c. refuses _ _ _ (c .if1 .left) (c .before .validate-settings .ensures)))

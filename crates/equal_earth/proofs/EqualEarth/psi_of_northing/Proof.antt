@@ -19,4 +19,4 @@ pub psi-of-northing-spec : {M : Type 1} → statement M
 unfolding psi-of-northing
 psi-of-northing-spec =
     tie.close
-    (tie.spec Inv-loop μ-loop (λ c. (search needs, refl)) (λ c κs. search needs) (λ c κs. search needs) (λ c. converged _ _ _ _ (c .before .before .before .before .loop .inv .1) (c .before .before .before .loop-test .taken) (c .before .before .newton .ensures) (c .before .abs .ensures) (c .if1 .taken)) (λ c. omega arith) (λ c. omega arith) (λ c. (omega arith, one-round _ _ _ _ (c .before .before .before .before .loop .inv .1) (c .before .before .before .loop-test .taken) (c .before .before .newton .ensures) (c .before .abs .ensures) (c .if1 .left))) (λ c. rounds-used-up _ _ _ _ _ (c .before .loop .inv .1) (c .loop-test .left)))
+    (tie.spec Inv-loop μ-loop (λ c. (search needs, refl)) (λ c κs. tt) (λ c κs. tt) (λ c. converged _ _ _ _ (c .before .before .before .before .loop .inv .1) (c .before .before .before .loop-test .taken) (c .before .before .newton .ensures) (c .before .abs .ensures) (c .if1 .taken)) (λ c. omega arith) (λ c. omega arith) (λ c. (omega arith, one-round _ _ _ _ (c .before .before .before .before .loop .inv .1) (c .before .before .before .loop-test .taken) (c .before .before .newton .ensures) (c .before .abs .ensures) (c .if1 .left))) (λ c. rounds-used-up _ _ _ _ _ (c .before .loop .inv .1) (c .loop-test .left)))

@@ -5,19 +5,19 @@ use Rattle.fixed.proofs.arctangent.asin.Tie as tie
 
 returns : tie.Need-returns
 unfolding arcsine
-returns c = simp (← c .before .before .abs .ensures, c .before .if1 .taken) (cc)
+returns c = rw (← c .before .before .abs .ensures, c .before .if1 .taken, c .nan .ensures)
 
 returns-2 : tie.Need-returns-2
 unfolding arcsine
 returns-2 c =
     let f = c .before .before in
-    simp (← f .before .before .abs .ensures, f .before .if1 .left, f .if2 .taken) (cc)
+    rw (← f .before .before .abs .ensures, f .before .if1 .left, f .if2 .taken, ← c .before .is-negative .ensures, ← c .pick .ensures)
 
 returns-3 : tie.Need-returns-3
 unfolding arcsine
 returns-3 c =
     let f = c .before .before in
-    simp (← f .before .before .abs .ensures, f .before .if1 .left, f .if2 .left) (cc)
+    rw (← f .before .before .abs .ensures, f .before .if1 .left, f .if2 .left, ← c .before .root .ensures, ← c .atan .ensures)
 
 pub asin-spec : {M : Type 1} → statement M
 asin-spec =

@@ -5,4 +5,4 @@ use Rattle.fixed.proofs.arctangent.on_axis.Tie as tie
 
 pub on-axis-spec : {M : Type 1} → statement M
 unfolding on-axis
-on-axis-spec = tie.close (tie.spec (λ c κs. tt) (λ c κs. tt) (λ c. cc))
+on-axis-spec = tie.close (tie.spec (λ c κs. tt) (λ c κs. tt) (λ c. rw (← c .before .is-finite .ensures, ← c .is-finite2 .ensures)))

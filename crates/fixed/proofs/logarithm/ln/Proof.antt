@@ -1,6 +1,6 @@
 -- The branches are the definition's; -1 / 0 computes to -infinity.
-use borrow.Author.Needs.{needs}
 use lib.Ieee.{div, neg, ofBits}
+use borrow.Author.Needs.{needs}
 use Rattle.fixed.specs.Logarithm.{scaled, mantissa, exponent, ln}
 use Rattle.fixed.proofs.logarithm.ln.Statement.{statement}
 use Rattle.fixed.proofs.logarithm.ln.Tie as tie
@@ -9,13 +9,13 @@ subnormal : tie.Need-returns
 unfolding ln scaled mantissa exponent
 subnormal c =
     let f = c .before .before .before in
-    simp (f .before .before .if1 .taken, ← f .before .is-finite .ensures, f .if2 .taken, c .before .before .if3 .taken) (cc)
+    rw (f .before .before .if1 .taken, ← f .before .is-finite .ensures, f .if2 .taken, c .before .before .if3 .taken, ← c .before .bits-of .ensures, ← c .ln-of-pattern .ensures)
 
 normal : tie.Need-returns-2
 unfolding ln scaled mantissa exponent
 normal c =
     let f = c .before .before .before in
-    simp (f .before .before .if1 .taken, ← f .before .is-finite .ensures, f .if2 .taken, c .before .before .if3 .left) (cc)
+    rw (f .before .before .if1 .taken, ← f .before .is-finite .ensures, f .if2 .taken, c .before .before .if3 .left, ← c .before .bits-of2 .ensures, ← c .ln-of-pattern2 .ensures)
 
 infinite : tie.Need-returns-3
 unfolding ln
@@ -27,7 +27,7 @@ of-zero c = simp (c .before .if1 .left, c .if4 .taken)
 
 no-number : tie.Need-returns-5
 unfolding ln
-no-number c = simp (c .before .before .if1 .left, c .before .if4 .left) (cc)
+no-number c = rw (c .before .before .if1 .left, c .before .if4 .left, c .nan .ensures)
 
 pub ln-spec : {M : Type 1} → statement M
 ln-spec =

@@ -14,7 +14,7 @@ unfolding ln-parts
 returns c =
     let a = c .before .before .before .before .args in
     let m = f64 (0x3ff0000000000000 + a .b % 2 ^ 52) in
-    cc (step (SQRT-2 ≺ m) m (a .b / 2 ^ 52) (a .bias))
+    rw (← step (SQRT-2 ≺ m) m (a .b / 2 ^ 52) (a .bias), ← c .before .before .before .bit .ensures .0, ← c .before .before .difference .ensures, ← c .before .pick .ensures, ← c .ln-near-one .ensures)
 
 pub ln-of-pattern-spec : {M : Type 1} → statement M
 unfolding ln-parts

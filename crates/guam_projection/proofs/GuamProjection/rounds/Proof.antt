@@ -3,17 +3,17 @@ use Prim.Native.Nat.{_≤_, _-_}
 use mathlib.Core.Path.{_≡_, refl, sym, _∙_}
 use native.Mathlib.Omega.{arith}
 use borrow.Author.Needs.{needs}
-use Rattle.guam_projection.specs.GuamProjection.{GUAM-INVERSE-ITERATIONS, round-from, repeated, rounds}
+use Rattle.guam_projection.specs.GuamProjection.{round-from, repeated, rounds, STEPS}
 use Rattle.guam_projection.proofs.Rounds.{none-left, one-more}
 use Rattle.guam_projection.proofs.GuamProjection.rounds.Statement.{statement}
 use Rattle.guam_projection.proofs.GuamProjection.rounds.Tie as tie
 
 abbrev Inv-loop : tie.InvT-loop
 Inv-loop self en ys x2 last₀ counter₀ last counter =
-    (counter ≤ GUAM-INVERSE-ITERATIONS) × (repeated (round-from self en ys x2) (GUAM-INVERSE-ITERATIONS - counter) last ≡ rounds self en ys x2)
+    (counter ≤ STEPS) × (repeated (round-from self en ys x2) (STEPS - counter) last ≡ rounds self en ys x2)
 
 abbrev μ-loop : tie.MeasureT-loop
-μ-loop self en ys x2 last₀ counter₀ last counter = GUAM-INVERSE-ITERATIONS - counter
+μ-loop self en ys x2 last₀ counter₀ last counter = STEPS - counter
 
 loop-holds : tie.Need-loop-holds Inv-loop μ-loop
 unfolding rounds
@@ -29,4 +29,4 @@ returns c = sym (none-left _ _ _ _ (c .loop-test .left)) ∙ c .before .loop .in
 pub rounds-spec : {M : Type 1} → statement M
 rounds-spec =
     tie.close
-    (tie.spec Inv-loop μ-loop loop-holds (λ c κs. search needs) (λ c. omega arith) (λ c. omega arith) loop-again returns)
+    (tie.spec Inv-loop μ-loop loop-holds (λ c κs. tt) (λ c. omega arith) (λ c. omega arith) loop-again returns)

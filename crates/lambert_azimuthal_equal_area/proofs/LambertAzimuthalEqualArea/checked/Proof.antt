@@ -1,15 +1,16 @@
--- By whether there is a fault.
-use Rattle.projection.specs.Checks.{guard}
-use Rattle.projection.proofs.Refusal.{guard-refused}
+-- The refusal of the numbers, or else the projection itself.
+use mathlib.Core.Path.{refl}
+use Rattle.projection.proofs.Refusal.{passes, refuses}
 use Rattle.lambert_azimuthal_equal_area.specs.LambertAzimuthalEqualArea.{checked}
-use borrow.Author.Needs.{needs}
 use Rattle.lambert_azimuthal_equal_area.proofs.LambertAzimuthalEqualArea.checked.Statement.{
   statement,
 }
 use Rattle.lambert_azimuthal_equal_area.proofs.LambertAzimuthalEqualArea.checked.Tie as tie
 
 pub checked-spec : {M : Type 1} → statement M
-unfolding checked guard
+unfolding checked
 checked-spec =
     tie.close
-    (tie.spec (λ c κs. search needs) (λ c. simp (← c .before .fault .ensures, c .if1 .taken)) (λ c. simp (guard-refused, ← c .before .fault .ensures, c .if1 .left)))
+    (tie.spec (λ c κs. tt)
+    (λ c. passes _ _ _ (c .if1 .taken) (c .before .fault .ensures) refl)
+    (λ c. refuses _ _ _ (c .if1 .left) (c .before .fault .ensures)))

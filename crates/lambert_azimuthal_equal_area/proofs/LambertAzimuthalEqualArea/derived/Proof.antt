@@ -1,6 +1,5 @@
 -- The same operations, from the callees' results.
 use Rattle.lambert_azimuthal_equal_area.specs.LambertAzimuthalEqualArea.{derived}
-use borrow.Author.Needs.{needs}
 use Rattle.lambert_azimuthal_equal_area.proofs.LambertAzimuthalEqualArea.derived.Statement.{
   statement,
 }
@@ -10,4 +9,21 @@ pub derived-spec : {M : Type 1} → statement M
 unfolding derived
 derived-spec =
     tie.close
-    (tie.spec (λ c κs. search needs) (λ c κs. search needs) (λ c κs. search needs) (λ c κs. search needs) (λ c κs. search needs) (λ c κs. search needs) (λ c κs. search needs) (λ c κs. search needs) (λ c κs. search needs) (λ c κs. search needs) (λ c. simp (← c .scale .ensures, ← c .before .aspect-at .ensures, ← c .before .before .sin-cos2 .ensures .0, ← c .before .before .sin-cos2 .ensures .1, ← c .before .before .before .sin-cos .ensures .0, ← c .before .before .before .sin-cos .ensures .1, ← c .before .before .before .before .authalic-latitude .ensures, ← c .before .before .before .before .before .authalic-q2 .ensures, ← c .before .before .before .before .before .before .root .ensures, ← c .before .before .before .before .before .before .before .authalic-q .ensures, ← c .before .before .before .before .before .before .before .before .e2 .ensures, ← c .before .before .before .before .before .before .before .before .before .semi-major-axis .ensures)))
+    (tie.spec (λ c κs. tt) (λ c κs. tt) (λ c κs. tt) (λ c κs. tt) (λ c κs. tt) (λ c κs. tt) (λ c κs. tt) (λ c κs. tt) (λ c κs. tt)
+    (λ c.
+    let beta0 = c .before .before .before in
+    let q0 = beta0 .before .before in
+    let q-p = q0 .before .before in
+    rw (
+      ← (q-p .before .e2 .ensures),
+      ← (q-p .authalic-q .ensures),
+      ← (q0 .before .root .ensures),
+      ← (q0 .authalic-q2 .ensures),
+      ← (beta0 .before .authalic-latitude .ensures),
+      ← (beta0 .sin-cos .ensures .0),
+      ← (beta0 .sin-cos .ensures .1),
+      ← (c .before .before .sin-cos2 .ensures .0),
+      ← (c .before .before .sin-cos2 .ensures .1),
+      ← (c .before .aspect-at .ensures),
+      ← (c .scale .ensures),
+    )))

@@ -1,6 +1,5 @@
 -- The same operations, from the callees' results.
 use Rattle.lambert_azimuthal_equal_area.specs.LambertAzimuthalEqualArea.{fault}
-use borrow.Author.Needs.{needs}
 use Rattle.lambert_azimuthal_equal_area.proofs.LambertAzimuthalEqualArea.fault.Statement.{
   statement,
 }
@@ -10,4 +9,13 @@ pub fault-spec : {M : Type 1} → statement M
 unfolding fault
 fault-spec =
     tie.close
-    (tie.spec (λ c κs. search needs) (λ c κs. search needs) (λ c κs. search needs) (λ c κs. search needs) (λ c κs. search needs) (λ c κs. search needs) (λ c κs. search needs) (λ c κs. search needs) (λ c κs. search needs) (λ c κs. search needs) (λ c κs. search needs) (λ c κs. search needs) (λ c κs. search needs) (λ c. cc))
+    (tie.spec (λ c κs. tt) (λ c κs. tt) (λ c κs. tt) (λ c κs. tt) (λ c κs. tt)
+    (λ c.
+    let scale = c .before .before in
+    rw (
+      ← (scale .before .before .validate-positive .ensures),
+      ← (scale .before .validate-origin .ensures),
+      ← (scale .validate-positive2 .ensures),
+      ← (c .before .or-else .ensures),
+    )
+    (c .or-else2 .ensures)))

@@ -1,15 +1,15 @@
--- Arm by arm, after the check.
-use Rattle.projection.specs.Checks.{guard}
-use Rattle.projection.proofs.Refusal.{guard-refused}
-use Rattle.lambert_azimuthal_equal_area.specs.Forward.{forward, ellipsoidal-forward}
-use borrow.Author.Needs.{needs}
+-- Arm by arm: the formulas' point, or the refusal.
+use Rattle.projection.specs.Starts.{entered}
+use Rattle.lambert_azimuthal_equal_area.specs.Forward.{forward}
 use Rattle.lambert_azimuthal_equal_area.proofs.LambertAzimuthalEqualArea.forward.Statement.{
   statement,
 }
 use Rattle.lambert_azimuthal_equal_area.proofs.LambertAzimuthalEqualArea.forward.Tie as tie
 
 pub forward-spec : {M : Type 1} → statement M
-unfolding forward ellipsoidal-forward guard
+unfolding forward entered
 forward-spec =
     tie.close
-    (tie.spec (λ c κs. search needs) (λ c κs. search needs) (λ c κs. search needs) (λ c κs. search needs) (λ c. search needs) (λ c κs. search needs) (λ c. search needs) (λ c κs. search needs) (λ c. search needs) (λ c κs. search needs) (λ c. simp (← c .before .before .before .before .before .validate-lon-lat .ensures, c .before .if2 .taken, c .before .before .before .before .if1 .taken) cc) (λ c. simp (← c .before .before .before .before .before .before .before .before .validate-lon-lat .ensures, c .before .enum-told .given .1, c .before .before .before .before .if2 .left, c .before .before .before .before .before .before .before .if1 .taken) cc) (λ c. simp (← c .before .before .before .before .before .before .before .before .validate-lon-lat .ensures, c .before .enum-told2 .given .1, c .before .before .before .before .if2 .left, c .before .before .before .before .before .before .before .if1 .taken) cc) (λ c. simp (← c .before .before .before .before .before .before .before .before .validate-lon-lat .ensures, c .before .enum-told3 .given .1, c .before .before .before .before .if2 .left, c .before .before .before .before .before .before .before .if1 .taken) cc) (λ c. simp (guard-refused, ← c .before .validate-lon-lat .ensures, c .if1 .left)))
+    (tie.spec (λ c κs. tt) (λ c. c .match .keys1) (λ c κs. tt) (λ c. c .match .keys2)
+    (λ c. let arm = c .before .before in rw (← (arm .before .before .enter .ensures), arm .d-lon .given .1) (c .projected .ensures))
+    (λ c. let arm = c .before in rw (← (arm .before .before .enter .ensures), arm .n .given .1)))

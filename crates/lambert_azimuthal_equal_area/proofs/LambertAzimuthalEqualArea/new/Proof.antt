@@ -1,6 +1,5 @@
--- The same operations, from the callees' results.
+-- What is built, by whether it is spherical.
 use Rattle.lambert_azimuthal_equal_area.specs.LambertAzimuthalEqualArea.{new}
-use borrow.Author.Needs.{needs}
 use Rattle.lambert_azimuthal_equal_area.proofs.LambertAzimuthalEqualArea.new.Statement.{
   statement,
 }
@@ -10,4 +9,4 @@ pub new-spec : {M : Type 1} → statement M
 unfolding new
 new-spec =
     tie.close
-    (tie.spec (λ c κs. search needs) (λ c κs. search needs) (λ c. simp (← c .checked .ensures, ← c .before .derived .ensures)))
+    (tie.spec (λ c κs. tt) (λ c. c .built .ensures))

@@ -4,4 +4,4 @@ use Rattle.probe.proofs.of_projection.probe_meridian_arc_coefficient.St
 use Rattle.probe.proofs.of_projection.probe_meridian_arc_coefficient.Tie as tie
 
 pub probe-meridian-arc-coefficient-spec : {M : Type 1} → statement M
-probe-meridian-arc-coefficient-spec = tie.close (tie.spec (λ c κs. search needs) (λ c. search needs) (λ c. search needs) (λ c. cc))
+probe-meridian-arc-coefficient-spec = tie.close (tie.spec (λ c κs. tt) (λ c. search needs) (λ c. search needs) (λ c. cc))

@@ -10,6 +10,6 @@ pub finish-spec : {M : Type 1} → statement M
 unfolding finish
 finish-spec =
     tie.close
-    (tie.spec (λ c. search needs) (λ c κs. search needs) (λ c. search needs)
+    (tie.spec (λ c. search needs) (λ c κs. tt) (λ c. search needs)
     (λ c. rw (c .before .before .formula .given .1) (c .ensure-finite-lon-lat .ensures .0, c .ensure-finite-lon-lat .ensures .1))
     (λ c. rw (c .before .formula2 .given .1) (refl, refused _)))

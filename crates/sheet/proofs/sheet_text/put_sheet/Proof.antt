@@ -1,40 +1,55 @@
 -- A sheet over the limit, another first line, or the names line and the answers.
-use Prim.Native.Nat.{_≤_}
 use mathlib.Core.Path.{sym}
 use native.Mathlib.Omega.{arith}
 use borrow.Author.Needs.{needs}
 use denote.Ref.{now}
-use lib.ListN.{length}
 use lib.Seq.{length-take-le}
-use Rattle.kinds.specs.Ascii.{ascii}
-use Rattle.sheet.specs.SheetText.{names, answer-names}
+use Rattle.letters.specs.Ascii.{ascii}
+use Rattle.sheet.specs.SheetText.{limit, names, answer-names}
 use Rattle.sheet.proofs.Parts.{end-within}
-use Rattle.sheet.proofs.Stores.{then}
-use Rattle.sheet.proofs.Lines.{over, right, right-end, wrong, copied, refused-long}
+use Rattle.sheet.proofs.Stores.{then, copied}
+use Rattle.sheet.proofs.Lines.{over, right, right-end, wrong, refused-long}
 use Rattle.sheet.proofs.sheet_text.put_sheet.Statement.{statement}
 use Rattle.sheet.proofs.sheet_text.put_sheet.Tie as tie
 
 add-put-body : tie.Need-add-put-body
 add-put-body c =
-    let h : 0 ≤ length (now (c .before .before .before .before .before .before .before .before .before .before .before .before .before .args .input)) = omega arith in
-    omega (arith, end-within 10 _ _ _ h (c .before .before .before .before .before .before .before .before .before .end-of .ensures), c .before .before .before .before .before .before .before .before .before .before .if1 .left)
+    let same = c .before .before .before .before .before .before in
+    let end = same .before .before .before in
+    omega (arith, end-within 10 _ _ _ (omega arith) (end .end-of .ensures), end .before .if1 .left)
 
 put-body-requires : tie.Need-put-body-requires
-unfolding names ascii
+unfolding limit names ascii
 put-body-requires c κs =
-    let e = right-end _ _ (c .before .before .before .before .before .before .before .before .before .before .before .if1 .left) (c .before .before .before .before .before .before .before .before .before .before .end-of .ensures) (c .before .before .before .before .before .before .before .same .ensures .0 (c .before .before .before .before .before .before .if2 .taken)) in
-    omega (arith, e, c .before .before .before .copy .ensures .0, c .before .before .before .copy .kept, c .before .before .before .before .before .before .before .before .before .before .before .if1 .left, c .before .before .before .before .before .before .before .before .before .before .before .before .before .before .pre)
+    let copy = c .before .before .before in
+    let same = copy .before .before .before .before in
+    let end = same .before .before .before in
+    let e = right-end _ _ (end .before .if1 .left) (end .end-of .ensures) (same .same .ensures .0 (copy .before .before .before .if2 .taken)) in
+    omega (arith, e, copy .copy .ensures .0, copy .copy .kept, end .before .if1 .left, end .before .before .before .before .pre)
+
+returns : tie.Need-returns
+unfolding limit
+returns c = let put = c .before .before in rw (over _ (put .before .before .if1 .taken)) (put .put-answer .ensures)
 
 returns-2 : tie.Need-returns-2
-unfolding names answer-names ascii
+unfolding limit names answer-names ascii
 returns-2 c =
-    rw (right _ _ (c .before .before .before .before .before .before .before .before .before .before .before .before .before .before .if1 .left) (c .before .before .before .before .before .before .before .before .before .before .before .before .before .end-of .ensures) (c .before .before .before .before .before .before .before .before .before .before .same .ensures .0 (c .before .before .before .before .before .before .before .before .before .if2 .taken)))
-    (then _ _ _ answer-names _ 0 _ _ (copied (now (c .before .before .before .before .before .before .before .before .before .before .before .before .before .before .before .before .before .args .out)) _ _ (omega (arith, c .before .before .before .before .before .before .before .before .before .before .before .before .before .before .before .before .before .pre)) (c .before .before .before .before .before .before .copy .ensures .0) (c .before .before .before .before .before .before .copy .ensures .1)) (c .before .before .put-body .ensures))
+    let body = c .before .before in
+    let copy = body .before .before .before .before in
+    let same = copy .before .before .before .before in
+    let end = same .before .before .before in
+    let start = end .before .before .before .before in
+    let names-copied = copied answer-names (now (start .args .out)) _ _ (omega (arith, start .pre)) (copy .copy .ensures .0) (copy .copy .ensures .1) in
+    rw (right _ _ (end .before .if1 .left) (end .end-of .ensures) (same .same .ensures .0 (copy .before .before .before .if2 .taken)))
+    (then _ _ _ answer-names _ 0 _ _ names-copied (body .put-body .ensures))
 
 returns-3 : tie.Need-returns-3
-unfolding names ascii
+unfolding limit names ascii
 returns-3 c =
-    rw (wrong _ _ (c .before .before .before .before .before .before .before .before .before .if1 .left) (c .before .before .before .before .before .before .before .before .end-of .ensures) _ (c .before .before .before .before .if2 .left) (c .before .before .before .before .before .same .ensures .1)) (c .before .before .put-answer2 .ensures)
+    let put = c .before .before in
+    let same = put .before .before .before in
+    let end = same .before .before .before in
+    rw (wrong _ _ (end .before .if1 .left) (end .end-of .ensures) _ (put .before .before .if2 .left) (same .same .ensures .1)) (put .put-answer2 .ensures)
 
 pub put-sheet-spec : {M : Type 1} → statement M
 put-sheet-spec =
@@ -42,11 +57,11 @@ put-sheet-spec =
     (tie.spec
     (λ c κs. omega (arith, refused-long 1 (omega arith), c .before .before .before .before .pre))
     (λ c. search needs)
-    (λ c. rw (over _ (c .before .before .before .before .if1 .taken)) (c .before .before .put-answer .ensures))
-    (λ c κs. search needs)
+    returns
+    (λ c κs. tt)
     (λ c. sym (length-take-le _ _ (end-within 10 _ _ _ (omega arith) (c .before .end-of .ensures))))
     (λ c. search needs)
-    (λ c κs. search needs)
+    (λ c κs. tt)
     (λ c. search needs)
     (λ c κs. search needs)
     add-put-body

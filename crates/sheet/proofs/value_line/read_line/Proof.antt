@@ -1,5 +1,4 @@
 -- A line of the form is read, any other is not.
-use borrow.Author.Needs.{needs}
 use Rattle.sheet.specs.ValueLine.{read-line}
 use Rattle.sheet.proofs.value_line.read_line.Statement.{statement}
 use Rattle.sheet.proofs.value_line.read_line.Tie as tie
@@ -9,7 +8,6 @@ unfolding read-line
 read-line-spec =
     tie.close
     (tie.spec
-    (λ c κs. search needs)
-    (λ c κs. search needs)
-    (λ c. rw (← c .before .before .has-form .ensures, c .before .if1 .taken, c .read-values .ensures))
-    (λ c. rw (← c .before .has-form .ensures, c .if1 .left)))
+    (λ c κs. tt)
+    (λ c. let read = c .before .before .read-fields .ensures in rw (← read .0, c .if1 .taken, read .1))
+    (λ c. let read = c .before .before .read-fields .ensures in rw (← read .0, c .if1 .left)))

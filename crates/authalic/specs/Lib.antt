@@ -1,0 +1,2 @@
+pub mod Authalic
+pub mod Opened

@@ -1,7 +1,0 @@
--- One nested sum of thirteen literal quotients.
-use borrow.Author.Needs.{needs}
-use Rattle.fixed.proofs.inverse_odds.odd_sum.Statement.{statement}
-use Rattle.fixed.proofs.inverse_odds.odd_sum.Tie as tie
-
-pub odd-sum-spec : {M : Type 1} → statement M
-odd-sum-spec = tie.close (tie.spec (λ c. search needs) (λ c κs. search needs) (λ c. cc))

@@ -1,0 +1,11 @@
+-- By the way.
+use Rattle.kinds.specs.Kinds.{answer}
+use Rattle.kinds.proofs.points.answer.Statement.{statement}
+use Rattle.kinds.proofs.points.answer.Tie as tie
+
+pub answer-spec : {M : Type 1} → statement M
+unfolding answer
+answer-spec =
+    tie.close
+    (tie.spec (λ c. c .match .keys1) (λ c κs. tt) (λ c. c .match .keys2) (λ c κs. tt)
+    (λ c. simp (← c .forward .ensures, c .before .enum-told .given .1)) (λ c. simp (← c .inverse .ensures .0, c .before .enum-told2 .given .1)))

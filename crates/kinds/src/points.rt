@@ -1,0 +1,64 @@
+// One point, as a line of a sheet asks for it.
+ghost use mathlib.Core.Path.{_≡_};
+ghost use Rattle.kinds.specs.Kinds.{refused, build, built-number, answer, project};
+use crate::Built;
+use crate::Projection;
+use ellipsoid::BuiltEllipsoid;
+use ellipsoid::Ellipsoid;
+use letters::Kind;
+use letters::Settings;
+use letters::Way;
+use projection::Answer;
+
+// No projection, and why.
+pub fn refused(n: u8) -> Projection
+    ensures { λ r. ⌜ r ≡ refused n ⌝ }
+{
+    let built = Built::Refused(n);
+    let en = [0.0; 13];
+    Projection { built, en }
+}
+
+// A projection of a kind on the ellipsoid of a and f: the ellipsoid's checks, then the projection's.
+pub fn build(kind: Kind, a: f64, f: f64, settings: Settings) -> Projection
+    ensures { λ r. ⌜ r ≡ build kind a f settings ⌝ }
+{
+    let ellipsoid = Ellipsoid::from_a_f(a, f);
+    match ellipsoid {
+        BuiltEllipsoid::Built(e) => Projection::new(kind, e, settings),
+        BuiltEllipsoid::Refused(n) => refused(n),
+    }
+}
+
+// 0 where the projection is built, or the number of its refusal.
+pub fn built_number(p: Projection) -> u8
+    ensures { λ r. ⌜ r ≡ built-number p ⌝ }
+{
+    let built = p.built;
+    match built {
+        Built::Lambert(_) => 0,
+        Built::Albers(_) => 0,
+        Built::Equal(_) => 0,
+        Built::Cassini(_) => 0,
+        Built::Polyconic(_) => 0,
+        Built::Guam(_) => 0,
+        Built::Refused(n) => n,
+    }
+}
+
+// One point by a projection that was built before, or its refusal.
+pub fn answer(way: Way, p: Projection, u: f64, v: f64) -> Answer
+    ensures { λ r. ⌜ r ≡ answer way p u v ⌝ }
+{
+    match way {
+        Way::Forward => p.forward(u, v),
+        Way::Inverse => p.inverse(u, v),
+    }
+}
+
+// One point with all that it needs.
+pub fn project(way: Way, kind: Kind, a: f64, f: f64, settings: Settings, u: f64, v: f64) -> Answer
+    ensures { λ r. ⌜ r ≡ project way kind a f settings u v ⌝ }
+{
+    answer(way, build(kind, a, f, settings), u, v)
+}

@@ -1,0 +1,4 @@
+pub mod Ascii
+pub mod Letters
+pub mod Uses
+pub mod Opened

@@ -1,0 +1,2 @@
+pub mod Meridian
+pub mod Opened

@@ -1,0 +1,3 @@
+mod NestedSteps
+pub mod Alternating
+mod FactorialTable

@@ -1,0 +1,16 @@
+-- The table's rule, computed on the code's own array.
+use mathlib.Core.Path.{refl}
+use native.Mathlib.Omega.{arith}
+use borrow.Author.Needs.{needs}
+use lib.Ieee.{ofBits, round}
+use Rattle.sums.specs.Factorials.{factorial, inverse-factorial}
+use Rattle.sums.proofs.FactorialTable.{tabulate, entry}
+use Rattle.sums.proofs.factorials.inverse_factorial.Statement.{statement}
+use Rattle.sums.proofs.factorials.inverse_factorial.Tie as tie
+
+returns : tie.Need-returns
+unfolding tabulate factorial inverse-factorial ofBits round
+returns c = entry _ _ refl (c .args .n) (omega arith) (omega arith)
+
+pub inverse-factorial-spec : {M : Type 1} → statement M
+inverse-factorial-spec = tie.close (tie.spec (λ c. search needs) (λ c. search needs) (λ c. search needs) (λ c. search needs) returns)

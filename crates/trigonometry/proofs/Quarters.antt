@@ -1,0 +1,38 @@
+-- Which of four values stands at k % 4: k's parity says whether sine's sum or cosine's, the half of the turn says its sign. And a quarter
+-- turn more makes a cosine of a sine.
+use mathlib.Core.Path.{_≡_, refl}
+use mathlib.Core.Bool.{cond}
+use mathlib.Core.List.{[], _∷_}
+use Prim.Native.Nat.{ℕ, zero, suc, _+_, _%_, _<_}
+use native.Mathlib.Omega.{arith}
+use lib.Dec.{eqb, ltb}
+use lib.ListN.{getD}
+use lib.Ieee.{Float, nan, neg}
+use Rattle.trigonometry.specs.Trigonometry.{by-quarter, sine-sum, cosine-sum, sine-at, cosine-at}
+
+signed : (n : ℕ) (s c : Float) → n < 4
+    → cond (ltb n 2) (cond (eqb (n % 2) 0) s c) (neg (cond (eqb (n % 2) 0) s c)) ≡ getD (s ∷ c ∷ neg s ∷ neg c ∷ []) n nan
+signed zero s c h = refl
+signed (suc zero) s c h = refl
+signed (suc (suc zero)) s c h = refl
+signed (suc (suc (suc zero))) s c h = refl
+signed (suc (suc (suc (suc n)))) s c h = absurd (omega arith)
+
+pub by-parity : (k : ℕ) (s c : Float)
+    → cond (ltb (k % 4) 2) (cond (eqb (k % 2) 0) s c) (neg (cond (eqb (k % 2) 0) s c)) ≡ by-quarter k s c (neg s) (neg c)
+by-parity k s c =
+    let e : k % 2 ≡ k % 4 % 2 = omega arith in
+    rw e (signed (k % 4) s c (omega arith))
+
+turned : (n : ℕ) (a b c d : Float) → n < 4 → getD (d ∷ a ∷ b ∷ c ∷ []) ((n + 1) % 4) nan ≡ getD (a ∷ b ∷ c ∷ d ∷ []) n nan
+turned zero a b c d h = refl
+turned (suc zero) a b c d h = refl
+turned (suc (suc zero)) a b c d h = refl
+turned (suc (suc (suc zero))) a b c d h = refl
+turned (suc (suc (suc (suc n)))) a b c d h = absurd (omega arith)
+
+pub quarter-more : (k : ℕ) (r : Float) → sine-at (k + 1) r ≡ cosine-at k r
+unfolding sine-at cosine-at
+quarter-more k r =
+    let e : (k + 1) % 4 ≡ (k % 4 + 1) % 4 = omega arith in
+    rw e (turned (k % 4) (cosine-sum r) (neg (sine-sum r)) (neg (cosine-sum r)) (sine-sum r) (omega arith))
