@@ -31,7 +31,7 @@ use Rattle.albers_equal_area.specs.declared.BuiltAlbersEqualArea.the-var
 abbrev pub ONE-PARALLEL : Float
 ONE-PARALLEL = f64 0x3ddb7cdfd9d7bdbb
 
--- a cone constant below this in size is no cone's
+-- a cone constant below this in size is refused
 abbrev pub NO-CONE : Float
 NO-CONE = f64 0x3d719799812dea11
 

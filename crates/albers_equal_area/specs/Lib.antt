@@ -1,1 +1,2 @@
 pub mod AlbersEqualArea
+pub mod AsInSource

@@ -49,7 +49,7 @@ fn m_func(lat: f64, e2: f64) -> f64
     sc.cos / root(1.0 - e2 * sin_lat * sin_lat)
 }
 
-// Not the shared authalic_q: no e2 is too small for it.
+// Not the shared authalic_q, which counts a tiny e2 as a sphere's.
 fn q_func(lat: f64, e: f64, e2: f64) -> f64
     ensures { λ r. ⌜ r ≡ q-func lat e e2 ⌝ }
 {
@@ -71,7 +71,7 @@ impl AlbersEqualArea {
     // Standard parallels that are nearer than this count as one.
     const ONE_PARALLEL: f64 = 1e-10;
 
-    // A cone constant below this in size is no cone's.
+    // A cone constant below this in size is refused.
     const NO_CONE: f64 = 1e-12;
 
     // The inverse's rounds, and the difference below which they end.
@@ -181,7 +181,7 @@ impl AlbersEqualArea {
         }
     }
 
-    // A round from lat to the latitude whose authalic q is given.
+    // One round, from lat, towards the latitude that has this q.
     fn latitude_round(q: f64, e: f64, e2: f64, lat: f64) -> f64
         ensures { λ r. ⌜ r ≡ latitude-round q e e2 lat ⌝ }
     {
@@ -211,7 +211,7 @@ impl AlbersEqualArea {
         Solution::Refused(STEPS_USED_UP)
     }
 
-    // The angle from the origin's meridian of an offset from the cone's apex, which a negative n turns around.
+    // The angle from the origin's meridian. The offset dx, dy is from the cone's apex; a negative n turns it around.
     fn theta_of_offset(self, dx: f64, dy: f64) -> f64
         ensures { λ r. ⌜ r ≡ theta-of-offset self dx dy ⌝ }
     {

@@ -1,0 +1,3 @@
+mod AdditionCommutes
+pub mod AsInSource
+pub mod NeverZero

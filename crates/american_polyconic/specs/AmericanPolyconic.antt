@@ -101,7 +101,8 @@ unfolding sin-e
 at-latitude p xs (solution.Found phi) = Pair (p .lon0 ⊕ arcsine (sin-e p xs (tangent phi) (sine phi)) ⊘ sine phi) phi
 at-latitude p xs (solution.Refused n) = Refused n
 
--- The place at the easting xs over a and at ys = A: on the equator Snyder 7-5 and 7-12, else with B = xs² + A² (18-8, 18-19), which the source sums in the other order on the ellipsoid, to the same f64.
+-- The place at the easting xs over a and at ys = A: on the equator Snyder 7-5 and 7-12, off it by the latitude, with B = xs² + A² (18-8, 18-19).
+-- On the ellipsoid the source sums B in the other order: specs/AsInSource.
 unfoldable pub place : AmericanPolyconic → List Float → Float → Float → Answer
 unfolding at-latitude
 place p en xs ys =

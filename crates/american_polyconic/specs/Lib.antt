@@ -1,4 +1,5 @@
 pub mod Tolerances
 pub mod Newton
 pub mod AmericanPolyconic
+pub mod AsInSource
 pub mod Opened

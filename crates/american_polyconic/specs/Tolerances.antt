@@ -6,7 +6,7 @@ use lib.Ieee.{Float, ofBits, round}
 use Rattle.float.specs.Operators.{f64}
 use Rattle.float.specs.Constants.{ratio}
 
--- a latitude or an ordinate of at most this size is the equator's, and a cosine a pole's
+-- a latitude or an ordinate of at most this size counts as the equator's, and a cosine of at most this size as a pole's
 abbrev pub EQUATOR-TOL : Float
 EQUATOR-TOL = f64 0x3ddb7cdfd9d7bdbb
 

@@ -29,14 +29,14 @@ pub enum BuiltAmericanPolyconic {
     Refused(u8),
 }
 
-// What the constructor answers, the meridian numbers beside it.
+// The constructor's answer, and beside it the meridian numbers.
 pub struct NewAmericanPolyconic {
     pub built: BuiltAmericanPolyconic,
     pub en: [f64; 13],
 }
 
 impl AmericanPolyconic {
-    // A latitude or an ordinate of at most this size is the equator's, and a cosine a pole's.
+    // A latitude or an ordinate of at most this size counts as the equator's, and a cosine of at most this size as a pole's.
     pub const EQUATOR_TOL: f64 = 1e-10;
 
     // The iteration stops at a step of at most this size, and refuses a cosine below it.

@@ -72,7 +72,7 @@ ellipsoidal-q lat e2 =
 unfoldable pub authalic-q : Float → Float → Float
 authalic-q lat e2 = cond (spherical e2) (two ⊗ sine lat) (ellipsoidal-q lat e2)
 
--- Snyder 3-11: β = arcsin (q / q at the pole), which rounding may bring past 1
+-- Snyder 3-11: β = arcsin (q / q at the pole). The quotient is held to [-1, 1], since rounding may bring it past.
 unfoldable pub authalic-latitude : Float → Float → Float
 authalic-latitude q q-p = arcsine (clamp (q ⊘ q-p) (neg one) one)
 

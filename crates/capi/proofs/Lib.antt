@@ -1,2 +1,4 @@
 mod Fills
 mod Lengths
+mod Maps
+pub mod NeverZero

@@ -6,8 +6,10 @@ ghost use lib.ListN.{length};
 ghost use lib.Ieee.{Float};
 ghost use Rattle.projection.specs.Results.{number, first-result, second-result};
 ghost use Rattle.kinds.specs.Kinds.{answer};
-ghost use Rattle.capi.specs.Points.{settings, project};
+ghost use Rattle.letters.specs.Letters.{way-of};
+ghost use Rattle.capi.specs.Points.{settings, build, project};
 ghost use Rattle.capi.specs.Columns.{each, Column};
+ghost use Rattle.capi.specs.OnTheMap.{ColumnOnTheMap};
 use crate::points::build;
 use kinds::Projection;
 use letters::Settings;
@@ -28,7 +30,7 @@ fn fill(
     numbers: &mut [u8],
 )
     requires { ⌜ (length (now v) ≡ length (now u)) × (length (now p) ≡ length (now u)) × (length (now q) ≡ length (now u)) × (length (now numbers) ≡ length (now u)) ⌝ }
-    ensures { λ _. ⌜ (now (p .exit) ≡ map first-result (each (answer way projection) (now (u .entry)) (now (v .entry)))) × (now (q .exit) ≡ map second-result (each (answer way projection) (now (u .entry)) (now (v .entry)))) × (now (numbers .exit) ≡ map number (each (answer way projection) (now (u .entry)) (now (v .entry)))) ⌝ }
+    ensures { λ _. ⌜ (now (p .exit) ≡ map first-result (each (answer way projection) (now (u .entry)) (now (v .entry)))) × (now (q .exit) ≡ map second-result (each (answer way projection) (now (u .entry)) (now (v .entry)))) × (now (numbers .exit) ≡ map number (each (answer way projection) (now (u .entry)) (now (v .entry)))) × ColumnOnTheMap way projection (now (u .entry)) (now (v .entry)) ⌝ }
 {
     let mut i = 0;
     while i < u.len() {
@@ -59,7 +61,7 @@ pub extern "C" fn lenthuc_column(
     q: &mut [f64],
     numbers: &mut [u8],
 ) -> u8
-    ensures { λ r. ⌜ Column (project way kind a f (settings lon0 lat0 lat1 lat2 «false_easting» «false_northing»)) (now (u .entry)) (now (v .entry)) (now (p .entry)) (now (q .entry)) (now (numbers .entry)) r (now (p .exit)) (now (q .exit)) (now (numbers .exit)) ⌝ }
+    ensures { λ r. ⌜ Column (project way kind a f (settings lon0 lat0 lat1 lat2 «false_easting» «false_northing»)) (now (u .entry)) (now (v .entry)) (now (p .entry)) (now (q .entry)) (now (numbers .entry)) r (now (p .exit)) (now (q .exit)) (now (numbers .exit)) × (r ≡ 0 → ColumnOnTheMap (way-of way) (build way kind a f (settings lon0 lat0 lat1 lat2 «false_easting» «false_northing»)) (now (u .entry)) (now (v .entry))) ⌝ }
 {
     let n = u.len();
     if (v.len() == n) & (p.len() == n) & (q.len() == n) & (numbers.len() == n) {

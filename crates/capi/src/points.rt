@@ -1,5 +1,7 @@
 // One point by the letters of a way and a kind, as a line of a sheet asks for it.
 ghost use mathlib.Core.Path.{_≡_};
+ghost use Rattle.letters.specs.Letters.{way-of};
+ghost use Rattle.kinds.specs.OnTheMap.{PointOnTheMap};
 ghost use Rattle.capi.specs.Answers.{Says};
 ghost use Rattle.capi.specs.Points.{settings, build, new-number, project};
 use kinds::Projection;
@@ -68,7 +70,7 @@ pub extern "C" fn lenthuc_project(
     p: &mut f64,
     q: &mut f64,
 ) -> u8
-    ensures { λ r. ⌜ Says (project way kind a f (settings lon0 lat0 lat1 lat2 «false_easting» «false_northing») u v) r (now (p .exit)) (now (q .exit)) ⌝ }
+    ensures { λ r. ⌜ Says (project way kind a f (settings lon0 lat0 lat1 lat2 «false_easting» «false_northing») u v) r (now (p .exit)) (now (q .exit)) × PointOnTheMap (way-of way) (build way kind a f (settings lon0 lat0 lat1 lat2 «false_easting» «false_northing»)) u v (project way kind a f (settings lon0 lat0 lat1 lat2 «false_easting» «false_northing») u v) ⌝ }
 {
     let settings = Settings {
         lon0,

@@ -50,7 +50,7 @@ pub(crate) fn footpoint_coefficients(e1: f64) -> FootpointCoefficients
     }
 }
 
-// The latitude whose arc is μ times the mean radius of the meridian.
+// The latitude φ from the rectifying latitude μ.
 pub(crate) fn footpoint_latitude(mu: f64, coeff2: f64, coeff4: f64, coeff6: f64, coeff8: f64) -> f64
     ensures { λ r. ⌜ r ≡ footpoint-latitude mu coeff2 coeff4 coeff6 coeff8 ⌝ }
 {

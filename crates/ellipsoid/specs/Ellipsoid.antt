@@ -12,7 +12,7 @@ use Rattle.ellipsoid.specs.declared.Ellipsoid.{Ellipsoid}
 use Rattle.ellipsoid.specs.declared.BuiltEllipsoid.{BuiltEllipsoid}
 use Rattle.ellipsoid.specs.declared.BuiltEllipsoid.the-variants.{Built, Refused}
 
--- 4 before 5. What lies in [0, 1) is finite.
+-- 4 before 5. What lies in [0, 1) is finite, so f is not asked to be. specs/AsInSource has the source's words.
 unfoldable pub from-a-f : Float → Float → BuiltEllipsoid
 from-a-f a f =
     cond (finite a && +0 ≺ a) (cond (+0 ≼ f && f ≺ one) (Built (record { a = a; f = f })) (Refused FLATTENING))
@@ -34,7 +34,7 @@ inverse-flattening p = cond (p .f ≈ +0) +0 (one ⊘ p .f)
 unfoldable pub b : Ellipsoid → Float
 b p = p .a ⊗ (one ⊖ p .f)
 
--- the first eccentricity squared, 2f - f² (Snyder 3-1 solved for e²)
+-- the first eccentricity squared, 2f - f² (Snyder's chapter 3, without a number)
 unfoldable pub e2 : Ellipsoid → Float
 e2 p = two ⊗ p .f ⊖ p .f ⊗ p .f
 
@@ -51,7 +51,7 @@ unfoldable pub ep2 : Ellipsoid → Float
 unfolding e2
 ep2 p = e2 p ⊘ (one ⊖ e2 p)
 
--- 1 - e² sin² φ, which both radii of curvature divide by a power of
+-- 1 - e² sin² φ: both radii of curvature divide by a power of it
 abbrev pub curvature : Ellipsoid → Float → Float
 curvature p phi = one ⊖ e2 p ⊗ sine phi ⊗ sine phi
 

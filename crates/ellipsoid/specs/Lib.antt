@@ -1,4 +1,5 @@
 pub mod Ellipsoid
+pub mod AsInSource
 pub mod Results
 pub mod Names
 pub mod Units

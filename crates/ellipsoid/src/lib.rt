@@ -75,7 +75,7 @@ impl Ellipsoid {
         Self::from_a_f(radius, 0.0)
     }
 
-    // 0 for a sphere.
+    // 1/f, or 0 for a sphere.
     pub fn inverse_flattening(self) -> f64
         ensures { λ r. ⌜ r ≡ inverse-flattening self ⌝ }
     {

@@ -57,7 +57,7 @@ pub enum Name {
     Wgs84Sphere,
 }
 
-// The ellipsoid of a name: what the constants are.
+// The ellipsoid of a name: its constant above.
 pub fn named(name: Name) -> Ellipsoid
     ensures { λ r. ⌜ r ≡ named name ⌝ }
 {

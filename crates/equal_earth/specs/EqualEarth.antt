@@ -1,5 +1,5 @@
 -- Equal Earth (Šavrič, Patterson and Jenny, 2018; IOGP 7-2 method 1078), in the source's order of operations.
--- The source writes ψ for the parametric latitude that both papers call θ.
+-- The source writes ψ for the parametric latitude that both papers call θ. Their equations are named here by what they give, not by a number.
 use mathlib.Core.Path.{_≡_, refl}
 use mathlib.Core.List.{List, [], _∷_}
 use mathlib.Core.Bool.{cond}
@@ -26,6 +26,7 @@ use Rattle.equal_earth.specs.declared.EqualEarth.{EqualEarth}
 use Rattle.equal_earth.specs.declared.BuiltEqualEarth.{BuiltEqualEarth}
 use Rattle.equal_earth.specs.declared.BuiltEqualEarth.the-variants as built
 
+-- the paper's polynomial: y = A1 ψ + A2 ψ³ + A3 ψ⁷ + A4 ψ⁹ on the unit sphere
 abbrev pub A1 : Float
 A1 = f64 0x3ff571b8aa00192a
 
@@ -65,11 +66,11 @@ pub constants :
 unfolding ofBits round neg mul div root
 constants = refl
 
--- dy/dψ on the unit sphere, by ψ² and ψ⁶
+-- dy/dψ, the derivative of the paper's polynomial, by ψ² and ψ⁶
 unfoldable pub y-derivative : Float → Float → Float
 y-derivative psi2 psi6 = A1 ⊕ three ⊗ A2 ⊗ psi2 ⊕ psi6 ⊗ (c7 ⊗ A3 ⊕ c9 ⊗ A4 ⊗ psi2)
 
--- y/ψ on the unit sphere, by ψ² and ψ⁶
+-- y/ψ, the paper's polynomial over ψ, by ψ² and ψ⁶
 unfoldable pub y-over-psi : Float → Float → Float
 y-over-psi psi2 psi6 = A1 ⊕ A2 ⊗ psi2 ⊕ psi6 ⊗ (A3 ⊕ A4 ⊗ psi2)
 
@@ -79,7 +80,7 @@ y-over-psi psi2 psi6 = A1 ⊕ A2 ⊗ psi2 ⊕ psi6 ⊗ (A3 ⊕ A4 ⊗ psi2)
 unfoldable pub polar-q : Float → Float
 polar-q e2 = cond (e2 ≈ +0) two (authalic-q FRAC-PI-2 e2)
 
--- rqda is the authalic radius over a, root (q_p / 2) (Snyder 3-13). The source's 1 on a sphere is that too.
+-- rqda is the authalic radius over a, root (q_p / 2) (Snyder 3-13). The source has 1 on a sphere, which is the same: specs/AsInSource.
 unfoldable pub derived : Ellipsoid → Float → Float → Float → EqualEarth
 derived ellipsoid lon0 false-easting false-northing =
     let q-p = polar-q (e2 ellipsoid) in
@@ -92,11 +93,11 @@ new ellipsoid lon0 false-easting false-northing =
 
 -- ---- forward
 
--- the sine of the authalic latitude β, q / q_p (Snyder 3-11), which rounding may bring past 1
+-- the sine of the authalic latitude β: q / q_p (Snyder 3-11), held to [-1, 1], since rounding may bring it past
 unfoldable pub sin-beta : EqualEarth → Float → Float
 sin-beta p lat = cond (p .e2 ≈ +0) (sine lat) (clamp (authalic-q lat (p .e2) ⊘ p .«q_p») (neg one) one)
 
--- sin ψ = (√3 / 2) sin β, E = FE + Rq λ cos ψ / (√3 / 2 dy/dψ), N = FN + Rq y
+-- the paper's forward equations with IOGP's Rq: sin ψ = (√3 / 2) sin β, E = FE + Rq λ cos ψ / (√3 / 2 dy/dψ), N = FN + Rq y
 unfoldable pub projected : EqualEarth → Float → Float → Answer
 projected p d-lon lat =
     let psi = arcsine (M ⊗ sin-beta p lat) in
@@ -128,7 +129,7 @@ longitude p xs psi =
     let psi6 = psi2 ⊗ psi2 ⊗ psi2 in
     p .lon0 ⊕ M ⊗ xs ⊗ y-derivative psi2 psi6 ⊘ cosine psi
 
--- sin β = sin ψ / (√3 / 2), which rounding may bring past 1. The series (Snyder 3-18) leaves β as it is on a sphere.
+-- sin β = sin ψ / (√3 / 2), held to [-1, 1], since rounding may bring it past. On a sphere the series (Snyder 3-18) leaves β as it is: specs/AsInSource.
 unfoldable pub latitude : EqualEarth → Float → Float
 latitude p psi = geodetic-from-authalic (arcsine (clamp (sine psi ⊘ M) (neg one) one)) (p .e2)
 
@@ -137,7 +138,7 @@ unfoldable pub place : EqualEarth → Float → Solution → Answer
 place p xs (solution.Found psi) = Pair (longitude p xs psi) (latitude p psi)
 place p xs (solution.Refused n) = Refused n
 
--- A scaled northing off the map is answered as its edge. The papers have no such rule.
+-- A scaled northing off the map is answered as the map's edge. The papers have no such rule.
 unfoldable pub formula : EqualEarth → Float → Float → Answer
 formula p x y =
     let scale = p .a ⊗ p .rqda in

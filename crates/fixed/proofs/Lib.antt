@@ -2,3 +2,6 @@ mod Differences
 mod MantissaStep
 mod PatternUnits
 pub mod SplitExact
+pub mod SplitUnique
+pub mod PatternSplit
+pub mod ExactProduct

@@ -1,4 +1,4 @@
--- The step at SQRT_2: one test serves m and k, whose field is counted up.
+-- The step at SQRT_2: one test halves m and adds 1 to the exponent's field.
 use mathlib.Core.Path.{_≡_}
 use mathlib.Core.Bool.{Bool, true, false, cond}
 use Prim.Native.Nat.{ℕ, _+_}

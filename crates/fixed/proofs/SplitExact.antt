@@ -1,135 +1,111 @@
--- ln's m and k: every finite f64 above 0 is m×2^k with 1 ≤ m < 2. A subnormal one is scaled by 2^54 first, exactly.
-use mathlib.Core.Path.{_≡_, refl, sym, _∙_, ap, subst}
-use mathlib.Core.Bool.{Bool, true, false}
-use Prim.Native.Nat.{ℕ, zero, suc, _+_, _-_, _*_, _/_, _%_, _^_, _≤_, _<_}
-use native.Mathlib.Nat.{mul-one, one-mul, mul-assoc, mul-comm, mul-right-comm, mul-pos, pow-succ', eq-of-mul-eq-mul-right, lt-of-lt-of-le}
+-- ln's m and k: every finite f64 above 0 is m×2^k with 1 ≤ m < 2.
+use mathlib.Core.Path.{_≡_, refl, sym, _∙_}
+use mathlib.Core.Logic.{inl, inr}
+use mathlib.Core.Bool.{true, false, true≢false}
+use Prim.Native.Nat.{ℕ, zero, suc, _*_, _^_, _≤_, _<_}
+use native.Mathlib.Nat.{add-zero, zero-add, mul-one, one-mul, mul-assoc, mul-comm, mul-le-mul-right, pow-succ', eq-zero-or-pos, lt-of-le-of-lt, lt-of-lt-of-le}
 use native.Mathlib.Omega.{arith}
-use borrow.Author.Tests.{leb-false, ltb-true, ltb-false}
-use lib.Dec.{T, ltb, lit≤}
-use lib.IntN.{ℤ, pos, negsuc, _-ℤ_}
-use lib.Pow.{pow-add, pow-pos, shl-lt}
-use lib.Ieee.{Float, nan, inf, fin, binary64, fits, toBits, ofBits, lt, up, down, top}
-use lib.Ieee.Bits.{ofBits-toBits}
-use lib.Ieee.Exact.{HasValue}
+use borrow.Author.Tests.{ltb-true}
+use lib.Dec.{T, lit≤}
+use lib.IntN.{ℤ, pos, negsuc, negℤ, _+ℤ_}
+use lib.Pow.{pow-add, pow-mono}
+use lib.Ieee.{Float, nan, inf, fin, binary64, size, fits, ofBits, lt, up, down}
+use lib.Ieee.Digits.{size-lt, size-reaches}
 use lib.Ieee.Scale.{finite}
-use Rattle.float.specs.Operators.{_⊗_, _≺_, f64}
+use Rattle.float.specs.Operators.{_≺_}
 use Rattle.float.specs.Constants.{+0}
-use Rattle.float.specs.Sign.{negative}
-use Rattle.float.specs.Units.{unit-count}
-use Rattle.float.proofs.SignBit.{top-bit}
-use Rattle.float.proofs.Rounded.{rounded}
-use Rattle.float.proofs.RoundedExact.{rounded-exact}
-use Rattle.float.proofs.IntegerDifference.{IsDifference, difference-pos, difference-sub}
-use Rattle.float.proofs.Units.{HasUnits, units-count, units-finite, units-sign}
-use Rattle.float.proofs.Finite.{Finite, finite-of}
-use Rattle.float.proofs.RoundFinite.{round-finite}
-use Rattle.float.proofs.Product.{mul-units}
-use Rattle.float.proofs.Comparison.{lt-units}
-use Rattle.fixed.specs.Logarithm.{MIN-POSITIVE, TWO-54, scaled, mantissa, exponent, Split}
-use Rattle.fixed.proofs.PatternUnits.{subnormal-units, normal-units, top-field}
-
--- one value, as another fraction
-same-value : (x : Float) (s : Bool) (a c b d : ℕ) → 0 < c → a * d ≡ b * c → HasValue x s a c → HasValue x s b d
-same-value nan s a c b d p h v = v
-same-value (inf t) s a c b d p h v = v
-same-value (fin t m e) s a c b d p h v = (
-  v .0,
-  eq-of-mul-eq-mul-right c p (m * up e * d) (b * down e)
-      (mul-right-comm (m * up e) d c ∙ rw (v .1) (mul-right-comm a (down e) d ∙ rw h (mul-right-comm b c (down e)))),
-)
+use Rattle.float.proofs.Powers.{pow-lt-back}
+use Rattle.float.proofs.Fits.{fits-odd, fits-says, fits-from}
+use Rattle.float.proofs.IntegerDifference.{IsDifference, Difference, difference-pos, difference-add}
+use Rattle.fixed.specs.Logarithm.{places, mantissa, exponent, Split}
 
 -- 2^(a - b)
-power : (a b : ℕ) → up (pos a -ℤ pos b) * 2 ^ b ≡ 2 ^ a * down (pos a -ℤ pos b)
-power a b = go (pos a -ℤ pos b) (difference-sub (difference-pos a) (difference-pos b) .is)
+pub power : {z : ℤ} {a b : ℕ} → Difference z a b → up z * 2 ^ b ≡ 2 ^ a * down z
+power {z} {a} {b} d = go z (d .is)
   where
-    go : (z : ℤ) → IsDifference z (a + 0) (0 + b) → up z * 2 ^ b ≡ 2 ^ a * down z
-    go (pos n) h =
-        let e : a ≡ b + n = omega arith in
-        rw (e, pow-add 2 b n, mul-one) (mul-comm (2 ^ n) (2 ^ b))
-    go (negsuc n) h =
-        let e : b ≡ a + suc n = omega arith in
-        rw (e, pow-add 2 a (suc n)) (one-mul (2 ^ a * 2 ^ suc n))
+    go : (z : ℤ) → IsDifference z a b → up z * 2 ^ b ≡ 2 ^ a * down z
+    go (pos n) h = rw (h, pow-add 2 b n, mul-one) (mul-comm (2 ^ n) (2 ^ b))
+    go (negsuc n) h = rw (h, pow-add 2 a (suc n)) (one-mul (2 ^ a * 2 ^ suc n))
 
-cross : (q j d p h c e : ℕ) → p * (c * h) ≡ 2 * j * d → q * j * (2 * e * d) ≡ q * p * (c * e * h)
-cross q j d p h c e k =
-    let l : q * j * (2 * e * d) ≡ q * e * (2 * j * d) = omega arith in
-    let r : q * p * (c * e * h) ≡ q * e * (p * (c * h)) = omega arith in
-    l ∙ ap (λ (n : ℕ). q * e * n) (sym k) ∙ sym r
+pub difference-negsuc : (i : ℕ) → Difference (negsuc i) 0 (suc i)
+difference-negsuc i = record { is = omega arith }
 
--- of a pattern b whose number is normal, and 2^h times x
-module _ (x : Float) (b h a : ℕ) (no-sign : b < 2 ^ 63) (v : HasUnits binary64 (f64 b) false a) (normal : 2 ^ 52 ≤ a)
-    (w : HasValue x false a (2 ^ 1074 * 2 ^ h)) where
-  same-count : (n : ℕ) → HasUnits binary64 (f64 b) false n → a ≡ n
-  same-count n u = sym (units-count v) ∙ units-count u
+-- 2^e × 2^d is 2^(e + d)
+add-places : (e : ℤ) (d : ℕ) → up e * (2 ^ d * down (e +ℤ pos d)) ≡ up (e +ℤ pos d) * down e
+add-places (pos i) d =
+    sym (mul-assoc (2 ^ i) (2 ^ d) (down (pos i +ℤ pos d)))
+    ∙ rw (← pow-add 2 i d) (sym (power (difference-add (difference-pos i) (difference-pos d))))
+add-places (negsuc i) d =
+    let k = negsuc i +ℤ pos d in
+    let p : up k * 2 ^ suc i ≡ 2 ^ d * down k = rw (add-zero (suc i), zero-add d) at (power (difference-add (difference-negsuc i) (difference-pos d))) in
+    one-mul (2 ^ d * down k) ∙ sym p
 
-  finite-field : (j : ℕ) → b / 2 ^ 52 ≡ suc j → suc j ≡ 2047 → ⊥
-  finite-field j e g = subst T (top-field b no-sign (e ∙ g)) (units-finite v)
+-- 2^-d
+up-minus : (d : ℕ) → up (negℤ (pos d)) ≡ 1
+up-minus zero = refl
+up-minus (suc d) = refl
 
-  from-field : (n : ℕ) → b / 2 ^ 52 ≡ n → Split x (f64 (0x3ff0000000000000 + b % 2 ^ 52)) (pos n -ℤ pos (1023 + h))
-  from-field zero e = absurd (omega (arith, same-count b (subnormal-units b (omega arith))))
-  from-field (suc j) e =
-      let q = 2 ^ 52 + b % 2 ^ 52 in
-      let c = 0x3ff0000000000000 + b % 2 ^ 52 in
-      let k = pos (suc j) -ℤ pos (1023 + h) in
-      let a-is : a ≡ q * 2 ^ j = same-count (q * 2 ^ j) (normal-units b j no-sign e (finite-field j e)) in
-      let d : up k * (2 ^ 1023 * 2 ^ h) ≡ 2 * 2 ^ j * down k = rw (pow-add 2 1023 h, pow-succ' 2 j) at (power (suc j) (1023 + h)) in
-      let digits : c % 2 ^ 52 ≡ b % 2 ^ 52 = omega arith in
-      let m : HasUnits binary64 (f64 c) false (q * 2 ^ 1022) = rw digits at (normal-units c 1022 (omega arith) (omega arith) (λ g. omega arith)) in
-      record {
-        q = q;
-        one-or-more = omega arith;
-        below-two = omega arith;
-        m-is = same-value (f64 c) false (q * 2 ^ 1022) (2 ^ 1074) q (2 ^ 52) (pow-pos 1074) (mul-assoc q (2 ^ 1022) (2 ^ 52)) (m .value);
-        x-is = same-value x false a (2 ^ 1074 * 2 ^ h) (q * up k) (2 ^ 52 * down k) (mul-pos (pow-pos 1074) (pow-pos h))
-            (rw a-is (cross q (2 ^ j) (down k) (up k) (2 ^ h) (2 ^ 1023) (2 ^ 51) d)) w;
-      }
+down-minus : (d : ℕ) → down (negℤ (pos d)) ≡ 2 ^ d
+down-minus zero = refl
+down-minus (suc d) = refl
 
--- of a normal y, 2^h times x
-normal-split : (x y : Float) (h a : ℕ) → Finite binary64 y false a → 2 ^ 52 ≤ a → HasValue x false a (2 ^ 1074 * 2 ^ h)
-    → Split x (f64 (0x3ff0000000000000 + toBits binary64 y % 2 ^ 52)) (pos (toBits binary64 y / 2 ^ 52) -ℤ pos (1023 + h))
-normal-split x y h a f l w =
-    let b = toBits binary64 y in
-    from-field x b h a (leb-false (top binary64) b (top-bit y (f .held) ∙ units-sign (f .units)))
-    (rw (ofBits-toBits binary64 y (f .held)) (f .units)) l w (b / 2 ^ 52) refl
+-- a number above 0 has a first digit
+size-above : (n : ℕ) → 0 < n → size n ≡ suc (places n)
+unfolding places
+size-above n h = elim (eq-zero-or-pos (size n)) [
+  | inl z ↦ absurd (omega (arith, rw z at (size-lt n)))
+  | inr p ↦ omega arith
+]
 
-above-zero : (x : Float) → (+0 ≺ x) ≡ true → negative x ≡ false
-unfolding lt ofBits negative
-above-zero nan p = refl
-above-zero (inf true) p = sym p
-above-zero (inf false) p = refl
-above-zero (fin true m e) p = sym p
-above-zero (fin false m e) p = refl
+pub places-low : (n : ℕ) → 0 < n → 2 ^ places n ≤ n
+places-low n h = size-reaches n (places n) (omega (arith, size-above n h))
+
+places-high : (n : ℕ) → 0 < n → n < 2 * 2 ^ places n
+places-high n h = rw (size-above n h, pow-succ' 2 (places n)) at (size-lt n)
+
+split-fin : (n : ℕ) (e : ℤ) → 0 < n → Split (fin false n e) (mantissa (fin false n e)) (exponent (fin false n e))
+unfolding mantissa exponent
+split-fin n e h =
+    let d = places n in
+    let k = e +ℤ pos d in
+    record {
+      a = n;
+      c = 2 ^ d;
+      one-or-more = places-low n h;
+      below-two = places-high n h;
+      m-is = (refl, rw (up-minus d, down-minus d, mul-one));
+      x-is = (refl, mul-assoc n (up e) (2 ^ d * down k) ∙ rw (add-places e d) (sym (mul-assoc n (up k) (down e))));
+    }
+
+fits-fin : (n : ℕ) (e : ℤ) → T (fits binary64 (fin false (suc n) e)) → T (fits binary64 (mantissa (fin false (suc n) e)))
+unfolding mantissa
+fits-fin n e t =
+    let d = places (suc n) in
+    let s = fits-says binary64 false (suc n) e t in
+    let lo = places-low (suc n) (omega arith) in
+    let l : d < 53 = pow-lt-back (lt-of-le-of-lt lo (s .digits)) in
+    fits-from binary64 false n (negℤ (pos d)) (fits-odd binary64 false n e t)
+    (record {
+      digits = s .digits;
+      least = rw (down-minus d) (pow-mono {i = d} {j = 1074} (omega arith));
+      most = rw (up-minus d, down-minus d, mul-one) (lt-of-lt-of-le (places-high (suc n) (omega arith)) (mul-le-mul-right (2 ^ d) (lit≤ tt)));
+    })
 
 module _ (x : Float) (held : T (fits binary64 x)) (finite-x : T (finite x)) (above : (+0 ≺ x) ≡ true) where
-  is-finite : Finite binary64 x false (unit-count binary64 x)
-  is-finite = rw (above-zero x above) at (finite-of binary64 x held finite-x)
-
-  some : 0 < unit-count binary64 x
-  some = ltb-true 0 (unit-count binary64 x) (sym (lt-units (subnormal-units 0 (omega arith)) (is-finite .units)) ∙ above)
-
-  is-small : (x ≺ MIN-POSITIVE) ≡ ltb (unit-count binary64 x) (2 ^ 52)
-  is-small = lt-units (is-finite .units) (normal-units (2 ^ 52) 0 (omega arith) refl (λ e. omega arith))
-
-  -- scaling a subnormal x by 2^54 is exact
-  pub scaling-exact : (x ≺ MIN-POSITIVE) ≡ true → Finite binary64 (x ⊗ TWO-54) false (unit-count binary64 x * 2 ^ 54)
-  scaling-exact e =
-      let n = unit-count binary64 x in
-      let small : n < 2 ^ 52 = ltb-true n (2 ^ 52) (sym is-small ∙ e) in
-      let exact : rounded 53 (n * 2 ^ 1128) (2 ^ 1074) ≡ n * 2 ^ 54 =
-      rw (mul-assoc n (2 ^ 54) (2 ^ 1074)) at (rounded-exact {p = 53} (pow-pos 1074) (record { significand = n; exponent = 54; digits = omega arith; exact = refl })) in
-      rw (mul-units (is-finite .units) (normal-units 0x4350000000000000 1076 (omega arith) refl (λ e. omega arith)), ← exact)
-      (round-finite binary64 false (n * 2 ^ 1128) (pow-pos 1074) (rw exact (lt-of-lt-of-le (shl-lt 52 54 small) (lit≤ tt))))
+  -- what is finite and above 0 is `fin false (suc n) e`
+  pub by-digits : (P : Float → Type 0) → ((n : ℕ) (e : ℤ) → T (fits binary64 (fin false (suc n) e)) → P (fin false (suc n) e)) → P x
+  unfolding lt ofBits
+  by-digits P k = go x held finite-x above
+    where
+      go : (x : Float) → T (fits binary64 x) → T (finite x) → (+0 ≺ x) ≡ true → P x
+      go nan t f p = absurd f
+      go (inf s) t f p = absurd f
+      go (fin true n e) t f p = absurd (true≢false (sym p))
+      go (fin false zero e) t f p = let q = ltb-true (0 * down e) (0 * up e * 1) p in absurd (omega arith)
+      go (fin false (suc n) e) t f p = k n e t
 
   pub split : Split x (mantissa x) (exponent x)
-  unfolding mantissa exponent scaled
-  split = go (x ≺ MIN-POSITIVE) refl
-    where
-      go : (s : Bool) → (x ≺ MIN-POSITIVE) ≡ s → Split x (mantissa x) (exponent x)
-      go true e =
-          let n = unit-count binary64 x in
-          rw e
-          (normal-split x (x ⊗ TWO-54) 54 (n * 2 ^ 54) (scaling-exact e) (omega (arith, some))
-          (same-value x false n (2 ^ 1074) (n * 2 ^ 54) (2 ^ 1074 * 2 ^ 54) (pow-pos 1074) (sym (mul-assoc n (2 ^ 54) (2 ^ 1074))) (is-finite .units .value)))
-      go false e =
-          let n = unit-count binary64 x in
-          rw e (normal-split x x 0 n is-finite (ltb-false n (2 ^ 52) (sym is-small ∙ e)) (is-finite .units .value))
+  split = by-digits (λ (y : Float). Split y (mantissa y) (exponent y)) (λ n e t. split-fin (suc n) e (omega arith))
+
+  pub mantissa-fits : T (fits binary64 (mantissa x))
+  mantissa-fits = by-digits (λ (y : Float). T (fits binary64 (mantissa y))) fits-fin

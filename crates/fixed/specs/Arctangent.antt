@@ -1,12 +1,15 @@
--- 01's arctangent, arcsine and atan2.
+-- Arctangent, arcsine and atan2 (document 01, Fixed functions).
 use mathlib.Core.Path.{_≡_, refl}
 use mathlib.Core.Bool.{Bool, cond, not, _&&_, _||_}
 use mathlib.Core.List.{[], _∷_}
-use lib.Ieee.{Float, nan, neg, isNan, ofBits, add, mul, div}
+use Prim.Native.Nat.{ℕ, _*_}
+use lib.Ieee.{Float, nan, neg, isNan, ofBits, round, mul}
 use lib.Ieee.Scale.{finite}
 use Rattle.float.specs.Operators.{_⊕_, _⊖_, _⊗_, _⊘_, _≺_, _≈_, f64}
-use Rattle.float.specs.Constants.{+0, one, two, three, four, PI, FRAC-PI-2, FRAC-PI-4, LO}
+use Rattle.float.specs.Constants.{+0, one, three, four, PI, FRAC-PI-2, FRAC-PI-4, LO}
 use Rattle.float.specs.Sign.{negative, abs}
+use Rattle.float.specs.Fractions.{Fraction, over, nearest-f64}
+use Rattle.float.specs.Pi.{arctan-low, arctan-high, pi-low, pi-high}
 use Rattle.root.specs.Root.{root}
 use Rattle.sums.specs.NestedSum.{alternating}
 use Rattle.sums.specs.InverseOdds.{inverse-odds}
@@ -58,9 +61,15 @@ atan2 y x =
     (cond (on-axis y x) (cond (negative y) (neg b) b)
     (cond (x ≺ +0) (cond (negative y) (a ⊖ PI) (a ⊕ PI)) a))
 
--- 3π/4 is 3×FRAC_PI_4; and each multiple of π that atan2 gives is nearest: what it is short of π's multiple, by LO, rounds away
+-- k quarters of p
+abbrev quarters : ℕ → Fraction → Fraction
+quarters k p = over (k * p .num) (4 * p .den)
+
+-- Each multiple of π that atan2 gives is the f64 nearest to it: the bounds below and above π (float's specs/Pi) both round to it. 3π/4 is 3×FRAC_PI_4.
 pub nearest-multiples :
-    (FRAC-3-PI-4 ∷ FRAC-PI-4 ⊕ LO ⊘ two ∷ FRAC-PI-2 ⊕ LO ∷ FRAC-3-PI-4 ⊕ three ⊗ (LO ⊘ two) ∷ PI ⊕ two ⊗ LO ∷ [])
-    ≡ (three ⊗ FRAC-PI-4 ∷ FRAC-PI-4 ∷ FRAC-PI-2 ∷ FRAC-3-PI-4 ∷ PI ∷ [])
-unfolding ofBits add mul div
+    (nearest-f64 (quarters 1 pi-low) ∷ nearest-f64 (quarters 2 pi-low) ∷ nearest-f64 (quarters 3 pi-low) ∷ nearest-f64 (quarters 4 pi-low)
+    ∷ nearest-f64 (quarters 1 pi-high) ∷ nearest-f64 (quarters 2 pi-high) ∷ nearest-f64 (quarters 3 pi-high) ∷ nearest-f64 (quarters 4 pi-high)
+    ∷ three ⊗ FRAC-PI-4 ∷ [])
+    ≡ (FRAC-PI-4 ∷ FRAC-PI-2 ∷ FRAC-3-PI-4 ∷ PI ∷ FRAC-PI-4 ∷ FRAC-PI-2 ∷ FRAC-3-PI-4 ∷ PI ∷ FRAC-3-PI-4 ∷ [])
+unfolding arctan-low arctan-high pi-low pi-high ofBits round mul
 nearest-multiples = refl

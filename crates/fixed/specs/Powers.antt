@@ -1,4 +1,4 @@
--- 01's `powf(1.5)`.
+-- `powf(1.5)` (document 01, Fixed functions).
 use lib.Ieee.{Float}
 use Rattle.float.specs.Operators.{_⊗_}
 use Rattle.root.specs.Root.{root}

@@ -25,7 +25,7 @@ fn half_angle(t: f64) -> f64
     t / (1.0 + root(1.0 + t * t))
 }
 
-// Signs alternate, as they do at -w.
+// At -w the signs alternate.
 fn arc(t: f64) -> f64
     ensures { λ r. ⌜ r ≡ arc t ⌝ }
 {

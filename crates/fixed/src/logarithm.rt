@@ -13,10 +13,12 @@ ghost use Rattle.fixed.specs.Logarithm.{ln-near-one, ln-parts, ln};
 
 const SQRT_2: f64 = f64::from_bits(0x3ff6_a09e_667f_3bcd);
 
+// ln 2: its first 32 binary digits, and the f64 nearest to the rest.
 const LN_2_HIGH: f64 = f64::from_bits(0x3fe6_2e42_fee0_0000);
 
 const LN_2_LOW: f64 = f64::from_bits(0x3dea_39ef_3579_3c76);
 
+// The least normal f64, 2^-1022.
 const MIN_POSITIVE: f64 = f64::from_bits(0x0010_0000_0000_0000);
 
 const TWO_54: f64 = f64::from_bits(0x4350_0000_0000_0000);
@@ -36,7 +38,7 @@ fn ln_near_one(m: f64, n: f64) -> f64
     n * LN_2_HIGH + ((2.0 * s) * odd_sum(s * s) + n * LN_2_LOW)
 }
 
-// ln of the number with the pattern b and the exponent's field `bias` for 2^0.
+// ln of the number with the pattern b, if `bias` is the exponent's field of 1.
 fn ln_of_pattern(b: u64, bias: u32) -> f64
     requires { ⌜ bias ≤ 4096 ⌝ }
     ensures { λ r. ⌜ r ≡ ln-parts (f64 (0x3ff0000000000000 + b % 2 ^ 52)) (pos (b / 2 ^ 52) -ℤ pos bias) ⌝ }
@@ -47,6 +49,7 @@ fn ln_of_pattern(b: u64, bias: u32) -> f64
     ln_near_one(pick(above, m * 0.5, m), k)
 }
 
+// m and k are read off x's bits. A subnormal x is multiplied by 2^54 first, which is exact.
 pub fn ln(x: f64) -> f64
     ensures { λ r. ⌜ r ≡ ln x ⌝ }
 {

@@ -1,4 +1,4 @@
--- Two fractions in common units: with x / w = a / c and y / w = b / c, tests, sums and the like of x and y are those of a and b.
+-- Two fractions over a common denominator: if x / w = a / c and y / w = b / c, then x and y compare, add, subtract and divide as a and b do.
 use mathlib.Core.Path.{_≡_, sym, ap, _∙_}
 use mathlib.Core.Bool.{Bool}
 use Prim.Native.Nat.{ℕ, _+_, _-_, _*_, _%_, _^_, _<_}

@@ -12,7 +12,7 @@ use lib.Ieee.Scale.{finite, overflow}
 use Rattle.float.specs.Sign.{negative}
 use Rattle.float.specs.Units.{unit-count}
 use Rattle.float.proofs.Representable.{Representable, representable-zero}
-use Rattle.float.proofs.Units.{HasUnits, units-count}
+use Rattle.float.proofs.Units.{HasUnits, units-finite, units-sign, units-count}
 use Rattle.float.proofs.Fits.{Fits, fits-says}
 use Rattle.float.proofs.Place.{place, place-value}
 
@@ -51,6 +51,10 @@ finite-of f (fin s m e) t u =
       representable = record { significand = m; exponent = place (low f) e; digits = h .digits; exact = refl };
       below-overflow = place-below f s m e h;
     })
+
+-- so a float that fits is one with the sign and the number of units that it has
+pub finite-with : {f : Format} {x : Float} {s : Bool} {a : ℕ} → T (fits f x) → HasUnits f x s a → Finite f x s a
+finite-with {f} {x} t v = rw (units-sign v, units-count v) at (finite-of f x t (units-finite v))
 
 -- the number of units of any float that fits has at most prec digits
 pub count-representable : (f : Format) (x : Float) → T (fits f x) → Representable (prec f) (unit-count f x)

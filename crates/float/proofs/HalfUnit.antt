@@ -27,7 +27,7 @@ closest-half a {b} B = go (compare (a % b * 2) b) (leb→le (a % b * 2) b) (nleb
         → Near (2 * (nearest (a / b) o * b)) (2 * a) b
     go o le gt eq = rw (div-add-mod' a b) at (near (a / b) (a % b) o (mod-lt a B) le gt eq)
 
--- the unit is 2 ^ drop
+-- the unit of the last digit is 2 ^ drop
 pub rounded-half-step : (p n : ℕ) {d : ℕ} → 0 < d → Near (2 * (rounded p n d * d)) (2 * n) (d * 2 ^ drop p n d)
 unfolding rounded
 rounded-half-step p n {d} D = regroup (kept p n d) (2 ^ drop p n d) (closest-half n (mul-pos D (pow-pos (drop p n d))))
@@ -35,7 +35,7 @@ rounded-half-step p n {d} D = regroup (kept p n d) (2 ^ drop p n d) (closest-hal
     regroup : (q u : ℕ) → Near (2 * (q * (d * u))) (2 * n) (d * u) → Near (2 * (q * u * d)) (2 * n) (d * u)
     regroup q u h = omega arith
 
--- below 2 ^ (p + k) units it is at most 2 ^ k, and twice the error at most that
+-- of a fraction below 2 ^ (p + k) that unit is at most 2 ^ k
 pub rounded-half-unit : (p k : ℕ) {n d : ℕ} → 0 < d → n < 2 ^ (p + k) * d → Near (2 * (rounded p n d * d)) (2 * n) (d * 2 ^ k)
 rounded-half-unit p k {n} {d} D h =
     let s : size (n / d) ≤ p + k = size-le (n / d) (p + k) (div-lt-iff-lt-mul D .1 h) in

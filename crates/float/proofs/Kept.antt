@@ -1,4 +1,4 @@
--- What rounding n / d to p digits keeps: `kept p n d`, after it dropped `drop p n d` digits. It has p digits where any are dropped.
+-- Rounding n / d to p digits drops `drop p n d` digits and keeps the number `kept p n d`. If any are dropped, it has p digits.
 use Prim.Native.Nat.{ℕ, _+_, _-_, _*_, _/_, _%_, _^_, _≤_, _<_, compare}
 use native.Mathlib.Nat.{le-trans, le-div-iff-mul-le, div-div-eq-div-mul}
 use native.Mathlib.Omega.{arith}
@@ -16,7 +16,7 @@ kept-le p n d =
     let u = d * 2 ^ k in
     le-trans (nearest-le (n / u) (compare (n % u * 2) u)) (rw div-div-eq-div-mul at (kept-lt p (n / d)))
 
--- a fraction of which digits are dropped has those and p more
+-- a fraction that loses digits has p more than those
 pub dropped-le : (p n d : ℕ) → 0 < p → 0 < drop p n d → 2 ^ (p - 1) * 2 ^ drop p n d ≤ n / d
 dropped-le p n d P K =
     let l : p - 1 + drop p n d < size (n / d) = omega arith in

@@ -22,10 +22,11 @@ pub mod Underflow
 pub mod NoOverflow
 -- ---- finite floats as numbers of units
 pub mod Units
-mod Fits
+pub mod Fits
 mod Place
 pub mod Finite
 pub mod Unique
+pub mod Values
 pub mod RoundFinite
 pub mod IntegerDifference
 pub mod SignedUnits

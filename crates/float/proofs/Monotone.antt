@@ -1,4 +1,4 @@
--- Rounding keeps the order, and so stays on its side of a number that p digits hold.
+-- Rounding keeps the order, so nothing is rounded past a number of p digits.
 use mathlib.Core.Path.{_≡_, sym}
 use mathlib.Core.Logic.{inl, inr}
 use Prim.Native.Nat.{ℕ, _+_, _-_, _*_, _/_, _^_, _≤_, _<_, zero-le}
@@ -45,7 +45,7 @@ module _ {p b d : ℕ} (a c : ℕ) (P : 0 < p) (B : 0 < b) (D : 0 < d) where
 pub rounded-same : {p b d : ℕ} (a c : ℕ) → 0 < p → 0 < b → 0 < d → a * d ≡ c * b → rounded p a b ≡ rounded p c d
 rounded-same a c P B D e = le-antisymm (rounded-mono a c P B D (le-of-eq e)) (rounded-mono c a P D B (le-of-eq (sym e)))
 
--- a number that p digits hold is not passed
+-- nothing passes a number of p digits
 pub rounded-le : {p n d b : ℕ} → 0 < p → 0 < d → Representable p b → n ≤ b * d → rounded p n d ≤ b
 rounded-le {n = n} {d} {b} P D r h = rw (rounded-exact D r) at (rounded-mono n (b * d) P D D (mul-le-mul-right d h))
 

@@ -1,4 +1,4 @@
--- Of all numbers that p digits hold, none is nearer to a fraction than its rounded value.
+-- No number of p digits is nearer to a fraction than its rounded value.
 use mathlib.Core.Path.{_≡_}
 use mathlib.Core.Logic.{inl, inr}
 use Prim.Native.Nat.{ℕ, _+_, _-_, _*_, _^_, _≤_, _<_}
@@ -25,7 +25,7 @@ multiple q t u d n e h w = elim (decLe q t) [
   | no a ↦ omega (arith, mul-le-mul-right (u * d) (lt-of-not-le a))
 ]
 
--- a number below all that have that unit is at least half of it away
+-- a number below all p-digit multiples of u is at least half of u away
 below : (r m u h b d n e : ℕ) → u ≡ 2 * h → m + h ≤ b → b * d ≤ n → Near (2 * (r * d)) (2 * n) (d * u) → Near (m * d) n e
     → Near (r * d) n e
 below r m u h b d n e t g l v w = let v' = rw t at v in omega (arith, mul-le-mul-right d g)

@@ -28,7 +28,7 @@ representable-below r t e h = record {
   exact = e;
 }
 
--- n is at most x and at most y, and a multiple of each power of two of which both are multiples
+-- n is at most x and y, and every power of two that divides both divides n
 pub representable-below-both : {p n x y : ℕ} → Representable p x → Representable p y → n ≤ x → n ≤ y
     → ((a b i : ℕ) → x ≡ a * 2 ^ i → y ≡ b * 2 ^ i → (t : ℕ) × (n ≡ t * 2 ^ i)) → Representable p n
 representable-below-both r s h k multiple = elim (decLe (r .exponent) (s .exponent)) [

@@ -1,4 +1,4 @@
--- Rounding keeps a number that p digits hold.
+-- Rounding to p digits leaves a number of p digits as it is.
 use mathlib.Core.Path.{_≡_, sym, ap, _∙_}
 use Prim.Native.Nat.{ℕ, _+_, _-_, _*_, _/_, _^_, _≤_, _<_}
 use native.Mathlib.Nat.{le-refl, mul-one, mul-pos, div-one, mod-one, mul-div-cancel}

@@ -11,7 +11,7 @@ use borrow.Author.Tests.{lt-ltb, le-ltb, eq-eqb}
 use Rattle.float.proofs.Units.{HasUnits}
 use Rattle.float.proofs.Comparison.{le-units}
 
--- numbers of opposite signs are in order, zeros too
+-- a negative number is at most a positive one, zeros too
 opposite-le : (a b : ℕ) → T (below true a false b || level true a false b)
 opposite-le a b = elim (eq-zero-or-pos (a + b)) [
   | inl z ↦ rw (le-ltb 0 (a + b) (omega arith), eq-eqb a b (omega arith), eq-eqb a 0 (omega arith)) tt

@@ -1,4 +1,4 @@
--- From 2 ^ (p - 1 + k) on, the numbers that p digits hold are multiples of 2 ^ k.
+-- Numbers of p digits are multiples of 2 ^ k from 2 ^ (p - 1 + k) on.
 use mathlib.Core.Path.{_≡_, _∙_}
 use Prim.Native.Nat.{ℕ, suc, _+_, _-_, _*_, _^_, _≤_, _<_}
 use native.Mathlib.Nat.{lt-of-le-of-lt, lt-of-not-le, mul-le-mul-right, lt-of-mul-lt-mul-right}
@@ -16,7 +16,7 @@ spaced {p} {n} k r h =
     let g : k ≤ j = omega arith in
     (r .significand * 2 ^ (j - k), r .exact ∙ lower-exponent (r .significand) g)
 
--- so they leave 2 ^ k below 2 ^ (p + k)
+-- so the largest below 2 ^ (p + k) is 2 ^ k below it
 pub gap : {p n : ℕ} (k : ℕ) → 0 < p → Representable p n → n < 2 ^ (p + k) → n + 2 ^ k ≤ 2 ^ (p + k)
 gap {p} {n} k P r h = rw pow-add (elim (decLe (2 ^ (p - 1) * 2 ^ k) n) [
   | yes g ↦

@@ -34,7 +34,7 @@ add-units {f} {s = s} {t} {a} {b} v w = both-units (λ (x y : Float). add f x y 
     (λ m n e d h.
     sum-common f s t (m * up e * down d) (n * up d * down e) a b (pow-pos (low f)) (h .denominators-pos) (h .left-cross) (h .right-cross))
 
--- ---- `sum` of like signs, and of unlike ones by which is the larger
+-- ---- `sum` of two numbers of one sign, and of two of opposite signs by which is larger
 sum-alike : (f : Format) (s : Bool) (a b c : ℕ) → sum f s a s b c ≡ round f s (a + b) c
 unfolding sum
 sum-alike f true a b c = refl
@@ -56,7 +56,7 @@ module _ {f : Format} {x y : Float} {s : Bool} {a b : ℕ} (p : Finite f x s a) 
       → Finite f (add f x y) s (rounded-whole (prec f) (a + b))
   add-alike q h = rw (add-units (p .units) (q .units), sum-alike f s a b (2 ^ low f)) (round-whole f s (a + b) h)
 
-  -- of two of opposite signs: it has the sign of the larger, and 0 is +0
+  -- the sum of two of opposite signs has the sign of the larger, and 0 is +0
   pub add-unlike-less : Finite f y (not s) b → a < b → Finite f (add f x y) (not s) (rounded-whole (prec f) (b - a))
   add-unlike-less q h = rw (add-units (p .units) (q .units), sum-less f s (2 ^ low f) h) (round-whole-le (not s) q (sub-le b a))
 

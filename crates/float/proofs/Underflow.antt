@@ -1,4 +1,4 @@
--- Below half a unit nothing is left.
+-- What is below half a unit is rounded to 0.
 use mathlib.Core.Path.{_≡_}
 use Prim.Native.Nat.{ℕ, _+_, _*_, _^_, _<_}
 use native.Mathlib.Nat.{mul-le-mul-right, lt-of-mul-lt-mul-right}

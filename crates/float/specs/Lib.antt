@@ -4,4 +4,6 @@ pub mod Constants
 pub mod Sign
 pub mod Limits
 pub mod Units
+pub mod Fractions
+pub mod Pi
 pub mod Opened

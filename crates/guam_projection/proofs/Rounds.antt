@@ -1,4 +1,4 @@
--- The laws by which a counted loop is proved equal to `repeated`: what is still to do equals the whole.
+-- The laws by which a counted loop is proved equal to `repeated`: the rounds that are left give what all of them give.
 use Prim.Native.Nat.{ℕ, suc, _+_, _-_, _<_, _≤_}
 use mathlib.Core.Path.{_≡_}
 use native.Mathlib.Omega.{arith}

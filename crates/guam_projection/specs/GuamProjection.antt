@@ -1,4 +1,5 @@
--- The Guam projection: Snyder pp. 197 and 198, IOGP 7-2 method 9831, in the source's order of operations. It works in units of a, and takes the arc of the meridian from the shared series, not from Snyder 3-21.
+-- The Guam projection: Snyder pp. 197-198 and 200-201, IOGP 7-2 method 9831, in the source's order of operations.
+-- It works in units of a, and takes the arc of the meridian from the shared series, not from Snyder 3-21.
 use mathlib.Core.List.{List}
 use mathlib.Core.Bool.{cond}
 use Prim.Native.Nat.{ℕ, zero, suc}

@@ -35,7 +35,7 @@ pub enum BuiltGuamProjection {
     Refused(u8),
 }
 
-// What the constructor answers, the meridian numbers beside it.
+// The constructor's answer, and beside it the meridian numbers.
 pub struct NewGuamProjection {
     pub built: BuiltGuamProjection,
     pub en: [f64; 13],

@@ -1,3 +1,4 @@
 pub mod Kinds
+pub mod OnTheMap
 pub mod Opened
 pub mod Cases

@@ -1,6 +1,7 @@
 // One point, as a line of a sheet asks for it.
 ghost use mathlib.Core.Path.{_≡_};
 ghost use Rattle.kinds.specs.Kinds.{refused, build, built-number, answer, project};
+ghost use Rattle.kinds.specs.OnTheMap.{PointOnTheMap};
 use crate::Built;
 use crate::Projection;
 use ellipsoid::BuiltEllipsoid;
@@ -48,7 +49,7 @@ pub fn built_number(p: Projection) -> u8
 
 // One point by a projection that was built before, or its refusal.
 pub fn answer(way: Way, p: Projection, u: f64, v: f64) -> Answer
-    ensures { λ r. ⌜ r ≡ answer way p u v ⌝ }
+    ensures { λ r. ⌜ (r ≡ answer way p u v) × PointOnTheMap way p u v r ⌝ }
 {
     match way {
         Way::Forward => p.forward(u, v),
@@ -58,7 +59,7 @@ pub fn answer(way: Way, p: Projection, u: f64, v: f64) -> Answer
 
 // One point with all that it needs.
 pub fn project(way: Way, kind: Kind, a: f64, f: f64, settings: Settings, u: f64, v: f64) -> Answer
-    ensures { λ r. ⌜ r ≡ project way kind a f settings u v ⌝ }
+    ensures { λ r. ⌜ (r ≡ project way kind a f settings u v) × PointOnTheMap way (build kind a f settings) u v r ⌝ }
 {
     answer(way, build(kind, a, f, settings), u, v)
 }

@@ -16,7 +16,7 @@ use Rattle.lambert_azimuthal_equal_area.specs.declared.Aspect.{Aspect}
 use Rattle.lambert_azimuthal_equal_area.specs.declared.Aspect.the-variants.{Oblique, NorthPolar, SouthPolar}
 use Rattle.lambert_azimuthal_equal_area.specs.declared.LambertAzimuthalEqualArea.{LambertAzimuthalEqualArea}
 
--- S: Snyder 22-4 and 22-5 with k' of 24-2, and b = R k'. The antipode is no point of the map: 18, which a NaN denominator passes.
+-- S: Snyder 22-4 and 22-5 with k' of 24-2, and b = R k'. The antipode is no point of the map: 18. A NaN denominator passes.
 unfoldable pub spherical-forward : LambertAzimuthalEqualArea → Float → Float → Answer
 spherical-forward p d-lon lat =
     let denom = one ⊕ p .«sin_lat0» ⊗ sine lat ⊕ p .«cos_lat0» ⊗ cosine lat ⊗ cosine d-lon in

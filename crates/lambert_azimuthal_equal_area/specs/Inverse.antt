@@ -17,7 +17,7 @@ use Rattle.lambert_azimuthal_equal_area.specs.declared.Aspect.{Aspect}
 use Rattle.lambert_azimuthal_equal_area.specs.declared.Aspect.the-variants.{Oblique, NorthPolar, SouthPolar}
 use Rattle.lambert_azimuthal_equal_area.specs.declared.LambertAzimuthalEqualArea.{LambertAzimuthalEqualArea}
 
--- ρ of Snyder 20-18; 24-28 is this of x/D and D y
+-- ρ (Snyder 20-18). 24-28 is the same function of x/D and D y.
 unfoldable pub distance : Float → Float → Float
 distance x y = root (x ⊗ x ⊕ y ⊗ y)
 
@@ -56,7 +56,7 @@ south-polar-formula p dx dy =
     let rho = distance dx dy in
     polar-place p rho (rho ⊗ rho ⊘ (p .a ⊗ p .a ⊗ p .«q_p») ⊖ one) (atan2 dx dy)
 
--- L elsewhere: 24-30 and 24-26 with ρ of 24-28, by which the centre is judged too
+-- L elsewhere: 24-30 and 24-26 with ρ of 24-28. The centre is judged by this ρ.
 unfoldable pub oblique-formula : LambertAzimuthalEqualArea → Float → Float → Answer
 oblique-formula p dx dy =
     let y-scaled = p .d ⊗ dy in

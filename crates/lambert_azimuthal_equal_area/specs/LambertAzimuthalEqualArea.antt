@@ -21,11 +21,11 @@ use Rattle.lambert_azimuthal_equal_area.specs.declared.LambertAzimuthalE
 use Rattle.lambert_azimuthal_equal_area.specs.declared.BuiltLambertAzimuthalEqualArea.{BuiltLambertAzimuthalEqualArea}
 use Rattle.lambert_azimuthal_equal_area.specs.declared.BuiltLambertAzimuthalEqualArea.the-variants.{Built, Refused}
 
--- radians, and a cosine
+-- a distance from a pole in radians, and the size of a cosine
 abbrev pub POLAR-EPSILON : Float
 POLAR-EPSILON = f64 0x3d719799812dea11
 
--- metres
+-- a distance from the centre in metres
 abbrev pub RHO-EPSILON : Float
 RHO-EPSILON = f64 0x3e112e0be826d695
 
@@ -39,7 +39,7 @@ aspect-at lat0 =
     cond (abs (lat0 ⊖ FRAC-PI-2) ≺ POLAR-EPSILON) NorthPolar
     (cond (abs (lat0 ⊕ FRAC-PI-2) ≺ POLAR-EPSILON) SouthPolar Oblique)
 
--- D of Snyder 24-20 with m of 14-15: by D east and 1/D north the map is conformal at its origin. About a pole it is that by itself.
+-- D of Snyder 24-20 with m of 14-15. With the scale D to the east and 1/D to the north the map is conformal at its origin. About a pole D is 1.
 unfoldable pub scale : Aspect → Float → Float → Float → Float → Float → Float → Float
 scale Oblique a e2 sin-lat0 cos-lat0 rq cos-beta0 = a ⊗ cos-lat0 ⊘ (root (one ⊖ e2 ⊗ sin-lat0 ⊗ sin-lat0) ⊗ rq ⊗ cos-beta0)
 scale NorthPolar a e2 sin-lat0 cos-lat0 rq cos-beta0 = one
@@ -78,7 +78,7 @@ derived ellipsoid lon0 lat0 false-easting false-northing spherical =
 unfoldable pub validate-positive : Float → ℕ → ℕ
 validate-positive value number = cond (finite value && +0 ≺ value) 0 number
 
--- an origin that is not polar has β0 off the pole
+-- 13 if the origin is not polar and its β0 is too near a pole, else 0
 unfoldable pub validate-origin : Aspect → Float → ℕ
 validate-origin Oblique cos-beta0 = cond (abs cos-beta0 ≺ POLAR-EPSILON) ORIGIN-NEAR-POLE 0
 validate-origin NorthPolar cos-beta0 = 0
@@ -93,7 +93,7 @@ fault p =
 unfoldable pub checked : LambertAzimuthalEqualArea → BuiltLambertAzimuthalEqualArea
 checked p = guard (fault p) Refused (Built p)
 
--- 6 to 10, or what the own checks make of what is derived
+-- 6 to 10, then 12 to 14, or the projection. specs/AsInSource has the source's words.
 unfoldable pub built : Ellipsoid → Float → Float → Float → Float → Bool → BuiltLambertAzimuthalEqualArea
 built ellipsoid lon0 lat0 false-easting false-northing spherical =
     guard (validate-settings lon0 lat0 +0 +0 false-easting false-northing) Refused

@@ -1,4 +1,5 @@
 pub mod LambertAzimuthalEqualArea
 pub mod Forward
 pub mod Inverse
+pub mod AsInSource
 pub mod Opened

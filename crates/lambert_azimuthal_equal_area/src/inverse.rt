@@ -24,7 +24,7 @@ pub(crate) fn bounded_arcsine(x: f64) -> f64
     asin(clamp(x, -1.0, 1.0))
 }
 
-// The angular distance c from the centre on a sphere, of a place rho from the centre on the map.
+// The angle c from the centre on a sphere. On the map the place is at the distance rho from the centre.
 pub(crate) fn angular_distance(rho: f64, radius: f64) -> f64
     ensures { λ r. ⌜ r ≡ angular-distance rho radius ⌝ }
 {

@@ -64,7 +64,7 @@ fn validate_positive(value: f64, number: u8) -> u8
 }
 
 impl LambertAzimuthalEqualArea {
-    // An origin strictly nearer to a pole than this is polar. Any other has a cosine of β0 of at least this size.
+    // An origin strictly nearer to a pole than this is polar. Any other is refused if the cosine of its β0 is below this in size.
     pub const POLAR_EPSILON: f64 = 1e-12;
 
     // What is strictly nearer to the centre than this, in metres, is at the centre.
@@ -215,7 +215,7 @@ impl LambertAzimuthalEqualArea {
         or_else(polar_q, or_else(origin, scale))
     }
 
-    // An origin that is not polar has β0 off the pole.
+    // 13 if the origin is not polar and its β0 is too near a pole, else 0.
     fn validate_origin(aspect: Aspect, cos_beta0: f64) -> u8
         ensures { λ r. ⌜ r ≡ validate-origin aspect «cos_beta0» ⌝ }
     {

@@ -52,7 +52,7 @@ impl LambertAzimuthalEqualArea {
         self.polar_place(rho, q_over_q_p, atan2(dx, dy))
     }
 
-    // At the centre lat0 stands for β.
+    // At the centre β is lat0.
     fn polar_place(self, rho: f64, q_over_q_p: f64, d_lon: f64) -> Answer
         ensures { λ r. ⌜ r ≡ polar-place self rho «q_over_q_p» «d_lon» ⌝ }
     {

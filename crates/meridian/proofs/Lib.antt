@@ -1,1 +1,2 @@
 mod FromEnd
+pub mod AsInSource

@@ -9,7 +9,7 @@ const MERIDIAN_ARC_ORDER: usize = 6;
 // The quarter meridian over π (a + b) / 4, in powers of n².
 const COEFF_RAD: [f64; 4] = [1.0, 1.0 / 4.0, 1.0 / 64.0, 1.0 / 256.0];
 
-// φ to μ: row by row, the coefficients of n² for each sine.
+// From φ to μ: a row for each sine, the coefficients of a polynomial in n².
 const COEFF_MU_PHI: [f64; 12] = [
     -3.0 / 2.0,
     9.0 / 16.0,
@@ -25,7 +25,7 @@ const COEFF_MU_PHI: [f64; 12] = [
     1001.0 / 2048.0,
 ];
 
-// μ to φ.
+// From μ to φ, likewise.
 const COEFF_PHI_MU: [f64; 12] = [
     3.0 / 2.0,
     -27.0 / 32.0,

@@ -1,4 +1,6 @@
 pub mod Refusal
+pub mod AsInSource
+pub mod NeverZero
 pub mod Steps
 pub mod Normalising
 pub mod Normalised

@@ -85,7 +85,7 @@ module _ {f : Format} {pi turn nought : Float} {P H : ℕ} (K : Circle f pi turn
         minus e (omega arith) (omega arith) (rw back at r)
     | no h ↦
         let half = K .half in
-        let positive = K .pi-pos in
+        let above = K .pi-pos in
         let H-le-sub : H ≤ P - z = omega (arith, lt-of-not-le h) in
         let N-le : N ≤ P = rw n (whole-le (prec-pos f) (K .pi-is .representable) (sub-le P z)) in
         let H-le : H ≤ N = rw n (whole-ge (prec-pos f) (K .half-representable) H-le-sub) in

@@ -1,4 +1,4 @@
--- Demand 3's theorem about `finish`: what it answers is a place on the map.
+-- Demand 3's theorem, `finish-on-the-map`: what `finish` answers is a place on the map.
 use mathlib.Core.Path.{_≡_, refl, sym, _∙_, subst}
 use mathlib.Core.Bool.{Bool, true, false, cond, _&&_}
 use Prim.Native.Nat.{ℕ, _+_, _-_, _*_, _^_, _≤_, _<_}
@@ -23,8 +23,9 @@ use Rattle.trigonometry.specs.Turns.{rem-euclid}
 use Rattle.projection.specs.Bound.{LAT-BOUND}
 use Rattle.projection.specs.Longitude.{normalize-longitude, eastern}
 use Rattle.refusals.specs.Refusals.{INVERSE-RESULT, INVERSE-BEYOND}
-use Rattle.projection.specs.Ends.{ensure-finite-lon-lat}
+use Rattle.projection.specs.Ends.{ensure-finite-lon-lat, finish}
 use Rattle.projection.specs.OnTheMap.{WITHIN, FAR, Place, OnTheMap}
+use Rattle.projection.specs.declared.Answer.{Answer}
 use Rattle.projection.specs.declared.Answer.the-variants.{Pair, Refused}
 use Rattle.projection.proofs.Normalising.{Circle, turn-pos}
 use Rattle.projection.proofs.Normalised.{Run, run, good, good-le, idempotent}
@@ -97,6 +98,7 @@ unfolding P normalize-longitude eastern rem-euclid
 place {raw = raw} {lat} h l e =
     let w = run circle h in
     record {
+      raw-finite = units-finite (h .units);
       lon-finite = units-finite (w .result .units);
       lat-finite = units-finite (l .units);
       lon-bound = simp abs-units (rw (units-count (w .result .units)) (good-le (good circle w)));
@@ -106,7 +108,7 @@ place {raw = raw} {lat} h l e =
     }
 
 -- for any f64 that a formula hands over, NaN and infinities too
-pub on-the-map : (raw lat : Float) → T (fits binary64 raw) → T (fits binary64 lat) → OnTheMap (Pair raw lat) (ensure-finite-lon-lat raw lat)
+on-the-map : (raw lat : Float) → T (fits binary64 raw) → T (fits binary64 lat) → OnTheMap (Pair raw lat) (ensure-finite-lon-lat raw lat)
 unfolding ensure-finite-lon-lat
 on-the-map raw lat t u = record { answered = go (finite raw) (finite lat) (LAT-BOUND ≺ abs lat) refl refl refl }
   where
@@ -125,3 +127,14 @@ on-the-map raw lat t u = record { answered = go (finite raw) (finite lat) (LAT-B
 -- a refusal is no place
 pub refused : (n : ℕ) → OnTheMap (Refused n) (Refused n)
 refused n = record { answered = λ lon lat h. never h }
+
+-- both numbers of a place are f64: `Float` has others too, with more digits or a larger exponent
+abbrev pub Held : Answer → Type 0
+Held (Pair raw lat) = T (fits binary64 raw) × T (fits binary64 lat)
+Held (Refused n) = Unit
+
+-- whatever a formula hands over, NaN and infinities too
+pub finish-on-the-map : (formula : Answer) → Held formula → OnTheMap formula (finish formula)
+unfolding finish
+finish-on-the-map (Pair raw lat) h = on-the-map raw lat (h .0) (h .1)
+finish-on-the-map (Refused n) h = refused n

@@ -21,6 +21,12 @@ pub guard-passed : {A : Type 0} (n : ℕ) (refuse : ℕ → A) (a : A) → n ≡
 unfolding guard
 guard-passed n refuse a e = rw e
 
+-- the refusals of a first check, and then those of a second
+pub guard-or-else : {A : Type 0} (n m : ℕ) (refuse : ℕ → A) (a : A) → guard (or-else n m) refuse a ≡ guard n refuse (guard m refuse a)
+unfolding guard or-else
+guard-or-else zero m refuse a = refl
+guard-or-else (suc n) m refuse a = refl
+
 -- The two answers of a function that has worked out its first fault m: what it goes on to where m is 0, and the refusal.
 pub passes : {A : Type 0} {m : ℕ} {b : A} (n : ℕ) (refuse : ℕ → A) (a : A) → m ≡ 0 → m ≡ n → b ≡ a → b ≡ guard n refuse a
 passes n refuse a z e f = f ∙ sym (guard-passed n refuse a (sym e ∙ z))

@@ -21,6 +21,8 @@ FAR = 1024 * 2 ^ 1074
 
 -- a place on the map, raw being 01's formula's longitude
 pub record Place (raw lon lat : Float) : Type 0 where
+  -- `in-units` takes NaN and infinities for 0: none of the three is one
+  pub raw-finite : T (finite raw)
   pub lon-finite : T (finite lon)
   pub lat-finite : T (finite lat)
   pub lon-bound : natAbs (in-units lon) ≤ natAbs (in-units PI)

@@ -19,7 +19,7 @@ pub record Fields (a b : ℕ) : Type 0 where
   pub small : b / 2 ^ 52 ≡ 0 → a ≡ b
   pub normal : 0 < b / 2 ^ 52 → a ≡ (b % 2 ^ 52 + 2 ^ 52) * 2 ^ (b / 2 ^ 52 - 1)
 
--- a keeps its leading 53 digits t, and drops k, none or all of them 0
+-- a is its leading 53 digits t, and then k zeros
 record Kept (a k t : ℕ) : Type 0 where
   pub exact : a ≡ t * 2 ^ k
   pub digits : t < 2 ^ 53

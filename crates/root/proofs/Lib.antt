@@ -9,3 +9,4 @@ mod Scaled
 mod Midpoint
 mod Tests
 pub mod Nearest
+pub mod NearestOnly

@@ -1,4 +1,5 @@
--- Of the numbers of 53 digits, t * 2 ^ k is on the root's side of the midpoint with any other, where t is the whole number nearest to the root of n, and n * 4 ^ k is squared.
+-- Let t be the whole number nearest to the root of n. Of all numbers of 53 digits, t * 2 ^ k is nearest to the root of n * 4 ^ k: the root is on its side of
+-- the midpoint with any other.
 use mathlib.Core.Path.{_≡_}
 use mathlib.Core.Logic.{inl, inr}
 use Prim.Native.Nat.{ℕ, suc, _+_, _-_, _*_, _^_, _≤_, _<_, zero-le}
@@ -11,7 +12,7 @@ use Rattle.float.proofs.Spacing.{spaced}
 use Rattle.root.specs.Nearest.{NearestWhole}
 use Rattle.root.proofs.RootUnits.{four-pow}
 
--- ---- the squares, with p = 2 ^ k: s against twice the root of n, by whole steps of p
+-- ---- with p = 2 ^ k: the square of s against 4 * n * p * p, for an s that is above or below u * p
 module _ (n s u p : ℕ) (P : 0 < p) where
   apart : u * p * (u * p) ≡ u * u * (p * p)
   apart = omega arith
@@ -31,7 +32,7 @@ module _ (n s u p : ℕ) (P : 0 < p) where
       (rw (apart, ← fold) (mul-le-mul-right (p * p) l))
 
 module _ (n t b k : ℕ) (v : NearestWhole n t) (lo : 2 ^ 52 ≤ t) (N : 2 ^ 52 * 2 ^ 52 ≤ n) (r : Representable 53 b) where
-  -- what 53 digits hold from 2 ^ (52 + k) on are multiples of 2 ^ k
+  -- numbers of 53 digits are multiples of 2 ^ k from 2 ^ (52 + k) on
   next-up : t * 2 ^ k < b → (2 * t + 1) * 2 ^ k ≤ t * 2 ^ k + b
   next-up h =
       let m = spaced k r (le-trans (mul-le-mul-right (2 ^ k) lo) (le-of-lt h)) in

@@ -1,4 +1,4 @@
--- The whole number nearest to a root: there is one only, and how it is told from the whole part of the root.
+-- Only one whole number is nearest to a root, and these tests find it.
 use mathlib.Core.Path.{_≡_}
 use Prim.Native.Nat.{ℕ, zero, suc, _+_, _-_, _*_, _/_, _^_, _≤_, _<_}
 use native.Mathlib.Nat.{le-antisymm, le-dest, lt-of-not-le, zero-lt-suc}

@@ -16,8 +16,8 @@ use lib.Ieee.Scale.{finite}
 use Rattle.float.specs.Sign.{negative}
 use Rattle.float.specs.Units.{unit-count, in-units, signed}
 use Rattle.float.proofs.Representable.{Representable, representable-zero}
-use Rattle.float.proofs.Units.{HasUnits, units-finite, units-sign, units-count}
-use Rattle.float.proofs.Finite.{Finite, finite-of}
+use Rattle.float.proofs.Units.{HasUnits}
+use Rattle.float.proofs.Finite.{finite-of, finite-with}
 use Rattle.float.proofs.SignedUnits.{units-signed}
 use Rattle.float.proofs.Unique.{finite-unique}
 use Rattle.root.specs.Root.{root}
@@ -27,7 +27,7 @@ use Rattle.root.proofs.RootUnits.{Rooted, rooted-nearest}
 use Rattle.root.proofs.Scaled.{Scaled, form}
 use Rattle.root.proofs.Midpoint.{below-midpoint, above-midpoint}
 
--- what is below r is below it by more
+-- if r / 2 is below the root, (r - b) / 2 is
 minus-below : (r b w : ℕ) → r * r < 4 * w → half-below-root (subℕ r b) w
 minus-below r b w h = go (ltb r b)
   where
@@ -49,9 +49,6 @@ module _ (w r : ℕ) (R : 0 < r)
       | inr l ↦ to-lower (ltZ-yes (lt→ltb r b l)) (above b v l)
     ]
   ]
-
-finite-with : {x : Float} {s : Bool} {a : ℕ} → T (fits binary64 x) → HasUnits binary64 x s a → Finite binary64 x s a
-finite-with {x} f v = rw (units-sign v, units-count v) at (finite-of binary64 x f (units-finite v))
 
 -- the root of x, as t * 2 ^ k units
 record Result (x : Float) : Type 0 where

@@ -1,4 +1,4 @@
--- `nearest-root` is the nearest whole number, at a w that has 4 ^ k for a factor.
+-- `nearest-root` gives the nearest whole number, if 4 ^ k divides w.
 use mathlib.Core.Path.{_≡_}
 use mathlib.Core.Bool.{not}
 use Prim.Native.Nat.{ℕ, _+_, _*_, _^_, _≤_, _<_, compare, Ordering, Ordering·lt, Ordering·eq, Ordering·gt}

@@ -30,7 +30,7 @@ module _ (m p : ℕ) (h : m < 2 ^ 53) (k : p < 2) where
 pub shifted-ge : (m p : ℕ) → m ≤ m * 2 ^ p
 shifted-ge m p = le-mul-of-pos-right m (pow-pos p)
 
--- e by its last digit, 52 of it, and pairs
+-- 2 ^ e as 2 ^ (e % 2), 2 ^ 52 and a power of 4
 halves : (m e : ℕ) → 52 ≤ e → m * 2 ^ e ≡ m * 2 ^ (e % 2) * 2 ^ 52 * 4 ^ (e / 2 - 26)
 halves m e h =
     let j = e / 2 - 26 in

@@ -9,7 +9,7 @@ use lib.Ieee.Positive.{positive}
 use lib.Ieee.Scale.{finite}
 use Rattle.float.specs.Units.{unit-count, in-units}
 
--- The whole number t is nearest to the root of n: (t - 1/2) ^ 2 < n < (t + 1/2) ^ 2, multiplied out. No whole number is the square of a half.
+-- The whole number t is nearest to the root of n: (t - 1/2) ^ 2 < n < (t + 1/2) ^ 2, multiplied out. (t + 1/2) ^ 2 is never whole, so there is no tie.
 pub record NearestWhole (n t : ℕ) : Type 0 where
   pub above : t * t < n + t
   pub below : n ≤ t * t + t
@@ -30,8 +30,14 @@ pub data Nearer (w : ℕ) (r y : ℤ) : Type 0 where
   to-upper : y <ℤ r → half-below-root (r +ℤ y) w → Nearer w r y
 
 -- r is the f64 nearest to the root of x, for a finite x above 0. In units of 2 ^ -1074 that root is the root of `unit-count x * 2 ^ 1074`. Every
--- other finite f64 is farther away, so there is no tie; IEEE 754 rounds to an infinity only from 2 ^ 1024 - 2 ^ 970 on, which no root reaches.
+-- other finite f64 is farther away, so there is no tie; IEEE 754-2019, 4.3.1, rounds to an infinity only from 2 ^ 1024 - 2 ^ 970 on, which no root reaches.
 pub record Nearest (x r : Float) : Type 0 where
   pub held : T (fits binary64 r)
   pub above-zero : T (positive r)
   pub nearer : (y : Float) → T (fits binary64 y) → T (finite y) → y ≢ r → Nearer (unit-count binary64 x * 2 ^ 1074) (in-units r) (in-units y)
+
+-- The other way round: y is a finite f64, and no finite f64 is nearer to the root of x. `root x` is such a y (`root-none-nearer`), and the only one (`root-only`).
+pub record NoneNearer (x y : Float) : Type 0 where
+  pub held : T (fits binary64 y)
+  pub finite-y : T (finite y)
+  pub none : (z : Float) → T (fits binary64 z) → T (finite z) → Nearer (unit-count binary64 x * 2 ^ 1074) (in-units z) (in-units y) → ⊥

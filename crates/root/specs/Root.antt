@@ -1,4 +1,4 @@
--- The square root of an f64, rounded to nearest, judged by whole-number squares.
+-- The square root of an f64, rounded to nearest, judged by whole-number squares (document 01, Fixed functions; squareRoot of IEEE 754-2019, 5.4.1).
 use Prim.Native.Nat.{ℕ, zero, suc, _+_, _-_, _*_, _/_, _^_, compare}
 use mathlib.Core.Bool.{true, false, cond}
 use lib.Dec.{leb}

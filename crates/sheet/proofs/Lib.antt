@@ -5,3 +5,4 @@ mod Parts
 mod Starts
 pub mod RoundTrip
 pub mod Stores
+pub mod NeverZero

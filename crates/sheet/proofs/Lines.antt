@@ -17,6 +17,7 @@ use Rattle.sheet.specs.Fields.{before, after, joined, fields}
 use Rattle.sheet.specs.ValueLine.{has-form, read-values, read-line}
 use Rattle.sheet.specs.Written.{Written}
 use Rattle.sheet.specs.AnswerLine.{decimal, answer-line}
+use Rattle.sheet.specs.OnTheMap.{LineOnTheMap, LinesOnTheMap, SheetOnTheMap}
 use Rattle.sheet.specs.SheetText.{answer, answer-to, lines, body, names, answer-names, same, limit, sheet-text}
 use Rattle.sheet.specs.declared.value_line.ValueLine.the-variants.{Values, Malformed}
 use Rattle.sheet.proofs.Parts.{end-part, end-after, end-within}
@@ -80,6 +81,28 @@ body-first : (l : List ℕ) → 0 < length l → body (lines l) ≡ answer-line 
 unfolding body
 body-first [] h = absurd (omega arith)
 body-first (x ∷ l) h = rw (first-line x l)
+
+-- if the lines from i on are on the map, all from `from` on are
+pub record Mapping (s : List ℕ) (from i : ℕ) : Type 0 where
+  pub all : LinesOnTheMap (lines (drop i s)) → LinesOnTheMap (lines (drop from s))
+
+lines-first : (l : List ℕ) → 0 < length l → lines l ≡ before 10 l ∷ lines (after 10 l)
+lines-first [] h = absurd (omega arith)
+lines-first (x ∷ l) h = first-line x l
+
+module _ (s : List ℕ) (from i : ℕ) (m : Mapping s from i) where
+  pub maps-on : (e : ℕ) (a : Answer) → i < length s → e ≡ i + length (before 10 (drop i s)) → a ≡ answer (take (e - i) (drop i s))
+      → LineOnTheMap (take (e - i) (drop i s)) a → Mapping s from (e + 1)
+  unfolding LinesOnTheMap
+  maps-on e a h k p on =
+      let within : i ≤ length s = omega arith in
+      let part = end-part 10 s i e within k in
+      let n : 0 < length (drop i s) = simp length-drop (omega arith) in
+      record { all = λ rest. m .all (rw (lines-first (drop i s) n) (rw (p, part) at on, rw (end-after 10 s i e within k) rest)) }
+
+  pub maps-all : length s ≤ i → LinesOnTheMap (lines (drop from s))
+  unfolding LinesOnTheMap lines
+  maps-all h = m .all (rw (drop-of-length-le s h) tt)
 
 -- The loop's invariant: what is still to be written makes the whole text, and there is room for it.
 pub record Writing (s l₀ : List ℕ) (at from : ℕ) (l : List ℕ) (w i : ℕ) : Type 0 where
@@ -148,10 +171,16 @@ same-false l m h = go (same l m) refl
     go true e = absurd (h (same-true l m e))
     go false e = refl
 
+pub not-both : {b : Bool} → b ≡ false → b ≡ true → ⊥
+not-both p q = let z : true ≡ false = sym q ∙ p in let y : _≡_ {A = ℕ} 0 1 = cc in omega arith
+
 module _ (s : List ℕ) where
   pub over : limit < length s → sheet-text s ≡ answer-line (Refused 1)
   unfolding sheet-text
   over h = simp (lt-ltb _ _ h)
+
+  pub over-lines : limit < length s → SheetOnTheMap s
+  over-lines h k n = absurd (omega arith)
 
   module _ (e : ℕ) (h : length s ≤ limit) (k : e ≡ 0 + length (before 10 (drop 0 s))) where
     front : take e s ≡ before 10 s
@@ -163,6 +192,14 @@ module _ (s : List ℕ) where
         let m : before 10 s ≡ names = sym front ∙ n in
         simp (le-ltb _ _ h) (rw (m, same-refl names, end-after 10 s 0 e (omega arith) k))
 
+    -- the lines after the names line, where that is the first
+    pub right-lines : LinesOnTheMap (lines (drop (e + 1) s)) → SheetOnTheMap s
+    right-lines m h' n = rw (end-after 10 s 0 e (omega arith) k) m
+
+    -- a sheet with another first line has none
+    pub wrong-lines : (take e s ≡ names → ⊥) → SheetOnTheMap s
+    wrong-lines q h' n = absurd (q (front ∙ n))
+
     pub right-end : take e s ≡ names → e ≡ 42
     unfolding names ascii
     right-end n = omega (arith, k, ap length (sym front ∙ n))
@@ -171,7 +208,7 @@ module _ (s : List ℕ) where
     unfolding sheet-text
     wrong b p q =
         simp (le-ltb _ _ h)
-        (rw (same-false (before 10 s) names (λ m. let z : true ≡ false = sym (q (front ∙ m)) ∙ p in let y : _≡_ {A = ℕ} 0 1 = cc in omega arith)))
+        (rw (same-false (before 10 s) names (λ m. not-both p (q (front ∙ m)))))
 
 -- one byte over the limit is enough of a sheet
 pub enough : (s : List ℕ) → sheet-text (take (limit + 1) s) ≡ sheet-text s

@@ -4,4 +4,5 @@ pub mod ValueLine
 pub mod Written
 pub mod AnswerLine
 pub mod SheetText
+pub mod OnTheMap
 pub mod Example

@@ -3,6 +3,7 @@ ghost use mathlib.Core.Path.{_≡_};
 ghost use Prim.Native.Nat.{_+_, _-_, _*_, _≤_};
 ghost use lib.ListN.{length, drop};
 ghost use Rattle.sheet.specs.SheetText.{answer, lines, body, sheet-text};
+ghost use Rattle.sheet.specs.OnTheMap.{LineOnTheMap, LinesOnTheMap, SheetOnTheMap};
 ghost use Rattle.sheet.specs.Written.{Written};
 use crate::answer_line::put_answer;
 use crate::fields::end_of;
@@ -21,7 +22,7 @@ pub const ROOM: usize = 9 + 36 * (LIMIT - 43);
 
 // The answer to a value line.
 pub fn answer(line: &[u8]) -> Answer
-    ensures { λ r. ⌜ r ≡ answer (now (line .entry)) ⌝ }
+    ensures { λ r. ⌜ (r ≡ answer (now (line .entry))) × LineOnTheMap (now (line .entry)) r ⌝ }
 {
     match read_line(line) {
         ValueLine::Values(q) => {
@@ -36,7 +37,7 @@ pub fn answer(line: &[u8]) -> Answer
 // Answers the lines from a place of the input on: 36 bytes of room for each byte are always enough.
 fn put_body(input: &[u8], from: usize, out: &mut [u8], at: usize) -> usize
     requires { ⌜ at + 36 * (length (now input) - from) ≤ length (now out) ⌝ }
-    ensures { λ r. ⌜ Written (now (out .entry)) at (body (lines (drop from (now (input .entry))))) r (now (out .exit)) ⌝ }
+    ensures { λ r. ⌜ Written (now (out .entry)) at (body (lines (drop from (now (input .entry))))) r (now (out .exit)) × LinesOnTheMap (lines (drop from (now (input .entry)))) ⌝ }
 {
     let mut i = from;
     let mut w = at;
@@ -50,7 +51,7 @@ fn put_body(input: &[u8], from: usize, out: &mut [u8], at: usize) -> usize
 
 fn put_sheet(input: &[u8], out: &mut [u8]) -> usize
     requires { do room ← ⟦ROOM⟧; ⌜ room ≤ length (now out) ⌝ }
-    ensures { λ r. ⌜ Written (now (out .entry)) 0 (sheet-text (now (input .entry))) r (now (out .exit)) ⌝ }
+    ensures { λ r. ⌜ Written (now (out .entry)) 0 (sheet-text (now (input .entry))) r (now (out .exit)) × SheetOnTheMap (now (input .entry)) ⌝ }
 {
     if LIMIT < input.len() {
         return put_answer(out, 0, Answer::Refused(SHEET_SIZE));
@@ -66,7 +67,7 @@ fn put_sheet(input: &[u8], out: &mut [u8]) -> usize
 
 // Writes the text that answers a sheet and gives its length. Every other byte stays. The room is always enough.
 pub fn answer_sheet(input: &[u8], out: &mut [u8; ROOM]) -> usize
-    ensures { λ r. ⌜ Written (now (out .entry)) 0 (sheet-text (now (input .entry))) r (now (out .exit)) ⌝ }
+    ensures { λ r. ⌜ Written (now (out .entry)) 0 (sheet-text (now (input .entry))) r (now (out .exit)) × SheetOnTheMap (now (input .entry)) ⌝ }
 {
     put_sheet(input, out)
 }

@@ -1,7 +1,7 @@
--- The first, the last and every other step of a nested sum, at any degree.
+-- A nested sum, step by step, at any degree.
 use mathlib.Core.Path.{_≡_, refl}
 use mathlib.Core.List.{List, [], _∷_}
-use Prim.Native.Nat.{ℕ, suc, _+_, _-_, _<_}
+use Prim.Native.Nat.{ℕ, suc, _+_, _<_}
 use native.Mathlib.Numerals.{add-one}
 use native.Mathlib.Omega.{arith}
 use lib.Ieee.{Float, nan}
@@ -16,16 +16,21 @@ unfolding nested
 nested-none w [] h = refl
 nested-none w (d ∷ ds) h = absurd (omega arith)
 
-pub nested-last : (w : Float) (c : List Float) (i : ℕ) → i + 1 ≡ length c → nested w (drop i c) ≡ getD c i nan
+-- the lemma over the degree: the sum of the coefficients from i on, by the sum from i + 1 on
+pub nested-degree : (w : Float) (c : List Float) (i : ℕ)
+    → (i + 1 ≡ length c → nested w (drop i c) ≡ getD c i nan)
+    × (i + 1 < length c → nested w (drop i c) ≡ getD c i nan ⊕ w ⊗ nested w (drop (i + 1) c))
 unfolding nested
-nested-last w c i h =
-    let a : i < length c = omega arith in
-    let e : suc i ≡ length c = omega arith in
-    rw (drop-cons c i nan a, e, drop-length)
+nested-degree w c i = (last, step)
+  where
+    last : i + 1 ≡ length c → nested w (drop i c) ≡ getD c i nan
+    last h =
+        let a : i < length c = omega arith in
+        let e : suc i ≡ length c = omega arith in
+        rw (drop-cons c i nan a, e, drop-length)
 
-pub nested-step : (w : Float) (c : List Float) (i : ℕ) → i + 1 < length c → nested w (drop i c) ≡ getD c i nan ⊕ w ⊗ nested w (drop (i + 1) c)
-unfolding nested
-nested-step w c i h =
-    let a : i < length c = omega arith in
-    let b : suc i < length c = omega arith in
-    rw (add-one, drop-cons c i nan a, drop-cons c (suc i) nan b)
+    step : i + 1 < length c → nested w (drop i c) ≡ getD c i nan ⊕ w ⊗ nested w (drop (i + 1) c)
+    step h =
+        let a : i < length c = omega arith in
+        let b : suc i < length c = omega arith in
+        rw (add-one, drop-cons c i nan a, drop-cons c (suc i) nan b)

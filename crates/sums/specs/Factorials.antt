@@ -1,4 +1,4 @@
--- Factorials, and the rule of 01's factorial table.
+-- Factorials, and the rule of the factorial table (document 01, Fixed functions).
 use mathlib.Core.List.{List, [], _∷_}
 use Prim.Native.Nat.{ℕ, zero, suc, _+_, _*_}
 use lib.Ieee.{Float, neg}

@@ -1,4 +1,4 @@
--- The coefficients of arctangent and ln: 1, 1/3, 1/5 .. 1/25, each the f64 quotient.
+-- The coefficients of arctangent and ln: 1, 1/3, 1/5 .. 1/25, each the f64 quotient (document 01, Fixed functions).
 use mathlib.Core.Path.{_≡_, refl}
 use mathlib.Core.List.{List, [], _∷_, map}
 use Prim.Native.Nat.{ℕ}

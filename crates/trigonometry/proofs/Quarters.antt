@@ -1,5 +1,5 @@
--- Which of four values stands at k % 4: k's parity says whether sine's sum or cosine's, the half of the turn says its sign. And a quarter
--- turn more makes a cosine of a sine.
+-- The value at k % 4 is sine's sum for an even k and cosine's for an odd one, negated in the second half of the turn. The cosine is the sine a quarter
+-- turn further.
 use mathlib.Core.Path.{_≡_, refl}
 use mathlib.Core.Bool.{cond}
 use mathlib.Core.List.{[], _∷_}

@@ -1,4 +1,4 @@
--- 01's sine, cosine and tangent: whole turns go by the exact remainder, quarter turns by counting, the rest by two nested sums.
+-- Sine, cosine and tangent (document 01, Fixed functions): the exact remainder takes off whole turns, quarter turns are counted, and two nested sums do the rest.
 use mathlib.Core.Path.{_≡_, refl}
 use mathlib.Core.Bool.{false, cond}
 use mathlib.Core.List.{[], _∷_}
@@ -20,11 +20,11 @@ five = f64 0x4014000000000000
 abbrev pub seven : Float
 seven = f64 0x401c000000000000
 
--- 01's z, made of x's size: less whole turns, where it is above one
+-- 01's z, from |x|: its remainder by a turn if it is above one turn
 unfoldable pub within-turn : Float → Float
 within-turn z = cond (TURN ≺ z) (z fmod TURN) z
 
--- 01's k: how many of 1, 3, 5, 7 times FRAC_PI_4, f64 products, z exceeds
+-- 01's k: how many of the f64 products 1, 3, 5, 7 times FRAC_PI_4 z exceeds
 unfoldable pub quarters : Float → ℕ
 quarters z = bit (FRAC-PI-4 ≺ z) + bit (three ⊗ FRAC-PI-4 ≺ z) + bit (five ⊗ FRAC-PI-4 ≺ z) + bit (seven ⊗ FRAC-PI-4 ≺ z)
 
@@ -72,7 +72,7 @@ tangent x = sine x ⊘ cosine x
 abbrev digits : ℕ
 digits = 0x3243f6a8885a3
 
--- 5 and 7; and the products of `quarters` and of `rest` are exact, `fin false m e` being m×2^e with an odd m
+-- `five` and `seven` are 5 and 7, and the products of `quarters` and of `rest` are exact: `fin false m e` is m×2^e, with an odd m
 pub exact-products :
     (five ∷ seven ∷ FRAC-PI-4 ∷ three ⊗ FRAC-PI-4 ∷ five ⊗ FRAC-PI-4 ∷ seven ⊗ FRAC-PI-4
     ∷ FRAC-PI-2 ∷ ofInt binary64 (pos 2) ⊗ FRAC-PI-2 ∷ ofInt binary64 (pos 3) ⊗ FRAC-PI-2 ∷ ofInt binary64 (pos 4) ⊗ FRAC-PI-2 ∷ [])

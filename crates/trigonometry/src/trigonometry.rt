@@ -81,7 +81,7 @@ pub fn sin(x: f64) -> f64
     }
 }
 
-// A quarter turn more makes a cosine of a sine.
+// The cosine is the sine a quarter turn further.
 pub fn cos(x: f64) -> f64
     ensures { λ r. ⌜ r ≡ cosine x ⌝ }
 {

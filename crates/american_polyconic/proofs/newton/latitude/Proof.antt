@@ -1,4 +1,4 @@
--- What is still to do after each step is the whole.
+-- The steps that are left give what all of them give.
 use Prim.Native.Nat.{_≤_, _-_, _+_}
 use mathlib.Core.Path.{_≡_, refl, sym, _∙_}
 use native.Mathlib.Omega.{arith}

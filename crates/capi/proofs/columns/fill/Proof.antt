@@ -1,4 +1,4 @@
--- Place by place, what the projection answers.
+-- Place by place, what the projection answers, which for an inverse is on the map.
 use Prim.Native.Nat.{_-_}
 use mathlib.Core.Path.{_≡_, sym, _∙_}
 use native.Mathlib.Omega.{arith}
@@ -6,17 +6,18 @@ use borrow.Author.Needs.{needs}
 use lib.ListN.{length}
 use Rattle.kinds.specs.Kinds.{answer}
 use Rattle.capi.proofs.Fills.{Filling, starts, goes-on, ends}
+use Rattle.capi.proofs.Maps.{Mapping, maps-on, maps-all}
 use Rattle.capi.proofs.columns.fill.Statement.{statement}
 use Rattle.capi.proofs.columns.fill.Tie as tie
 
 abbrev Inv-loop : tie.InvT-loop
-Inv-loop way new u v p₀ q₀ numbers₀ i₀ p q numbers i = Filling (answer way new) u v p q numbers i
+Inv-loop way new u v p₀ q₀ numbers₀ i₀ p q numbers i = Filling (answer way new) u v p q numbers i × Mapping way new u v i
 
 abbrev μ-loop : tie.MeasureT-loop
 μ-loop way new u v p₀ q₀ numbers₀ i₀ p q numbers i = length u - i
 
 loop-holds : tie.Need-loop-holds Inv-loop μ-loop
-loop-holds c = let h = c .before .before .before .before .before .pre in starts _ _ _ _ _ _ (h .0) (h .1) (h .2) (h .3)
+loop-holds c = let h = c .before .before .before .before .before .pre in (starts _ _ _ _ _ _ (h .0) (h .1) (h .2) (h .3), λ m. m)
 
 mul-answer : tie.Need-mul-answer Inv-loop μ-loop
 mul-answer c = search needs
@@ -28,7 +29,7 @@ mul-answer-2 : tie.Need-mul-answer-2 Inv-loop μ-loop
 mul-answer-2 c = search needs
 
 shared-slice-read-answer-2 : tie.Need-shared-slice-read-answer-2 Inv-loop μ-loop
-shared-slice-read-answer-2 c = omega (arith, c .before .before .before .loop .inv .v-long)
+shared-slice-read-answer-2 c = omega (arith, c .before .before .before .loop .inv .0 .v-long)
 
 answer-requires : tie.Need-answer-requires Inv-loop μ-loop
 answer-requires c κs = tt
@@ -40,7 +41,7 @@ mul-p : tie.Need-mul-p Inv-loop μ-loop
 mul-p c = search needs
 
 slice-write-p : tie.Need-slice-write-p Inv-loop μ-loop
-slice-write-p c = omega (arith, c .before .before .before .before .before .loop .inv .p-long)
+slice-write-p c = omega (arith, c .before .before .before .before .before .loop .inv .0 .p-long)
 
 second-result-requires : tie.Need-second-result-requires Inv-loop μ-loop
 second-result-requires c κs = tt
@@ -49,13 +50,13 @@ mul-q : tie.Need-mul-q Inv-loop μ-loop
 mul-q c = search needs
 
 slice-write-q : tie.Need-slice-write-q Inv-loop μ-loop
-slice-write-q c = omega (arith, c .before .before .before .before .before .before .loop .inv .q-long)
+slice-write-q c = omega (arith, c .before .before .before .before .before .before .loop .inv .0 .q-long)
 
 number-requires : tie.Need-number-requires Inv-loop μ-loop
 number-requires c κs = tt
 
 slice-write-numbers : tie.Need-slice-write-numbers Inv-loop μ-loop
-slice-write-numbers c = omega (arith, c .before .before .before .before .before .before .before .loop .inv .n-long)
+slice-write-numbers c = omega (arith, c .before .before .before .before .before .before .before .loop .inv .0 .n-long)
 
 add-i : tie.Need-add-i Inv-loop μ-loop
 add-i c = search needs
@@ -66,19 +67,24 @@ loop-less c = omega arith
 loop-again : tie.Need-loop-again Inv-loop μ-loop
 loop-again c =
     let at = c .before .before .before .before .before .before .before .loop in
-    goes-on _ _ _ _ _ _ _ (at .inv) _ _ _ _ _ (omega arith) (c .before .before .before .answer .ensures) (c .before .before .first-result .ensures) (c .before .second-result .ensures) (c .number .ensures)
+    let answer = c .before .before .before in (
+      goes-on _ _ _ _ _ _ _ (at .inv .0) _ _ _ _ _ (omega arith) (answer .answer .ensures .0) (c .before .before .first-result .ensures) (c .before .second-result .ensures) (c .number .ensures),
+      maps-on _ _ _ _ _ (at .inv .1) _ (omega arith) (omega (arith, at .inv .0 .v-long)) _ (answer .answer .ensures .0) (answer .answer .ensures .1),
+    )
 
 same-length : tie.Need-same-length Inv-loop μ-loop
-same-length c = c .before .loop .inv .p-long ∙ sym (c .before .before .before .before .before .before .before .pre .1)
+same-length c = c .before .loop .inv .0 .p-long ∙ sym (c .before .before .before .before .before .before .before .pre .1)
 
 same-length-2 : tie.Need-same-length-2 Inv-loop μ-loop
-same-length-2 c = c .before .loop .inv .q-long ∙ sym (c .before .before .before .before .before .before .before .pre .2)
+same-length-2 c = c .before .loop .inv .0 .q-long ∙ sym (c .before .before .before .before .before .before .before .pre .2)
 
 same-length-3 : tie.Need-same-length-3 Inv-loop μ-loop
-same-length-3 c = c .before .loop .inv .n-long ∙ sym (c .before .before .before .before .before .before .before .pre .3)
+same-length-3 c = c .before .loop .inv .0 .n-long ∙ sym (c .before .before .before .before .before .before .before .pre .3)
 
 returns : tie.Need-returns Inv-loop μ-loop
-returns c = ends _ _ _ _ _ _ _ (c .before .loop .inv) (c .loop-test .left)
+returns c =
+    let held = ends _ _ _ _ _ _ _ (c .before .loop .inv .0) (c .loop-test .left) in
+    (held .0, held .1, held .2, maps-all _ _ _ _ _ (c .before .loop .inv .1) (c .loop-test .left))
 
 pub fill-spec : {M : Type 1} → statement M
 fill-spec =

@@ -1,4 +1,5 @@
 -- Filled where the lengths are one, else left alone.
+use native.Mathlib.Omega.{arith}
 use borrow.Author.Needs.{needs}
 use Rattle.capi.proofs.Lengths.{one-length, filled, kept}
 use Rattle.capi.proofs.columns.lenthuc_column.Statement.{statement}
@@ -11,10 +12,13 @@ fill-requires c κs =
 
 returns : tie.Need-returns
 returns c =
-    filled _ _ _ _ _ _ _ _ _ (c .before .before .before .before .before .before .before .before .before .before .before .before .if1 .taken)
-    (rw (← c .before .before .before .before .before .before .before .before .before .before .before .build .ensures, ← c .before .before .before .before .before .before .before .before .before .before .way-of .ensures) (c .before .before .before .before .before .before .fill .ensures))
+    let fill = c .before .before .before .before .before .before in
+    let way = fill .before .before .before .before in
+    let held = fill .fill .ensures in
+    rw (← way .before .build .ensures, ← way .way-of .ensures)
+    (filled _ _ _ _ _ _ _ _ _ (way .before .before .if1 .taken) (held .0, held .1, held .2), λ z. held .3)
 
 pub lenthuc-column-spec : {M : Type 1} → statement M
 lenthuc-column-spec =
     tie.close
-    (tie.spec (λ c κs. tt) (λ c κs. tt) fill-requires (λ c. search needs) (λ c. search needs) (λ c. search needs) returns (λ c. kept _ _ _ _ _ _ (c .if1 .left)))
+    (tie.spec (λ c κs. tt) (λ c κs. tt) fill-requires (λ c. search needs) (λ c. search needs) (λ c. search needs) returns (λ c. (kept _ _ _ _ _ _ (c .if1 .left), λ z. absurd (omega (arith, z)))))

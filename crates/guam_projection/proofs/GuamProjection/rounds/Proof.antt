@@ -1,4 +1,4 @@
--- The rounds that are left after the counted ones, from the last, give the whole.
+-- The rounds that are left give what all of them give.
 use Prim.Native.Nat.{_≤_, _-_}
 use mathlib.Core.Path.{_≡_, refl, sym, _∙_}
 use native.Mathlib.Omega.{arith}

@@ -5,4 +5,4 @@ use Rattle.kinds.proofs.points.project.Tie as tie
 
 pub project-spec : {M : Type 1} → statement M
 unfolding project
-project-spec = tie.close (tie.spec (λ c κs. tt) (λ c κs. tt) (λ c. simp (← c .answer .ensures, ← c .before .build .ensures)))
+project-spec = tie.close (tie.spec (λ c κs. tt) (λ c κs. tt) (λ c. rw (← c .before .build .ensures) (c .answer .ensures)))

@@ -10,7 +10,7 @@ use Rattle.lenthuc.proofs.answers.answer_input.Tie as tie
 returns : tie.Need-returns
 unfolding limit
 returns c =
-    let w = c .answer-sheet .ensures in
+    let w = c .answer-sheet .ensures .0 in
     (λ s e. rw (← enough s) (rw e at w), still-within _ _ _ _ _ w)
 
 pub answer-input-spec : {M : Type 1} → statement M

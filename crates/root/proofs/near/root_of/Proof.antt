@@ -1,4 +1,4 @@
--- A number that is seen to be near, else the root digit by digit.
+-- The guess, or the number after it, if `is_near` finds it nearest; else the root digit by digit.
 use Prim.Native.Nat.{ℕ, _/_, _%_, _^_, _≤_}
 use native.Mathlib.Nat.{mul-le-mul}
 use native.Mathlib.Omega.{arith}

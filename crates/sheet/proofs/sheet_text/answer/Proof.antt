@@ -1,4 +1,5 @@
--- What a line asks for is projected; a line of another form gets 2.
+-- What a line asks for is projected, on the map; a line of another form gets 2.
+use mathlib.Core.Path.{refl}
 use borrow.Author.Needs.{needs}
 use Rattle.sheet.specs.SheetText.{answer}
 use Rattle.sheet.proofs.sheet_text.answer.Statement.{statement}
@@ -14,4 +15,4 @@ answer-spec =
     (λ c κs. search needs)
     (λ c. search needs)
     (λ c. rw (← c .before .before .before .before .read-line .ensures, c .before .before .q .given .1) (c .project .ensures))
-    (λ c. rw (← c .before .before .read-line .ensures, c .enum-told .given .1)))
+    (λ c. rw (← c .before .before .read-line .ensures, c .enum-told .given .1) (refl, tt)))

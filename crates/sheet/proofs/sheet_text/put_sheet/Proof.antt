@@ -8,7 +8,7 @@ use Rattle.letters.specs.Ascii.{ascii}
 use Rattle.sheet.specs.SheetText.{limit, names, answer-names}
 use Rattle.sheet.proofs.Parts.{end-within}
 use Rattle.sheet.proofs.Stores.{then, copied}
-use Rattle.sheet.proofs.Lines.{over, right, right-end, wrong, refused-long}
+use Rattle.sheet.proofs.Lines.{over, right, right-end, wrong, refused-long, over-lines, right-lines, wrong-lines, not-both}
 use Rattle.sheet.proofs.sheet_text.put_sheet.Statement.{statement}
 use Rattle.sheet.proofs.sheet_text.put_sheet.Tie as tie
 
@@ -29,7 +29,9 @@ put-body-requires c κs =
 
 returns : tie.Need-returns
 unfolding limit
-returns c = let put = c .before .before in rw (over _ (put .before .before .if1 .taken)) (put .put-answer .ensures)
+returns c = let put = c .before .before in
+    let h = put .before .before .if1 .taken in
+    rw (over _ h) (put .put-answer .ensures, over-lines _ h)
 
 returns-2 : tie.Need-returns-2
 unfolding limit names answer-names ascii
@@ -40,8 +42,9 @@ returns-2 c =
     let end = same .before .before .before in
     let start = end .before .before .before .before in
     let names-copied = copied answer-names (now (start .args .out)) _ _ (omega (arith, start .pre)) (copy .copy .ensures .0) (copy .copy .ensures .1) in
-    rw (right _ _ (end .before .if1 .left) (end .end-of .ensures) (same .same .ensures .0 (copy .before .before .before .if2 .taken)))
-    (then _ _ _ answer-names _ 0 _ _ names-copied (body .put-body .ensures))
+    let short = end .before .if1 .left in
+    rw (right _ _ short (end .end-of .ensures) (same .same .ensures .0 (copy .before .before .before .if2 .taken)))
+    (then _ _ _ answer-names _ 0 _ _ names-copied (body .put-body .ensures .0), right-lines _ _ short (end .end-of .ensures) (body .put-body .ensures .1))
 
 returns-3 : tie.Need-returns-3
 unfolding limit names ascii
@@ -49,7 +52,10 @@ returns-3 c =
     let put = c .before .before in
     let same = put .before .before .before in
     let end = same .before .before .before in
-    rw (wrong _ _ (end .before .if1 .left) (end .end-of .ensures) _ (put .before .before .if2 .left) (same .same .ensures .1)) (put .put-answer2 .ensures)
+    let short = end .before .if1 .left in
+    let other = put .before .before .if2 .left in
+    rw (wrong _ _ short (end .end-of .ensures) _ other (same .same .ensures .1))
+    (put .put-answer2 .ensures, wrong-lines _ _ short (end .end-of .ensures) (λ n. not-both other (same .same .ensures .1 n)))
 
 pub put-sheet-spec : {M : Type 1} → statement M
 put-sheet-spec =

@@ -8,9 +8,10 @@ use Rattle.sums.proofs.FactorialTable.{tabulate, entry}
 use Rattle.sums.proofs.factorials.inverse_factorial.Statement.{statement}
 use Rattle.sums.proofs.factorials.inverse_factorial.Tie as tie
 
-returns : tie.Need-returns
+-- entry n - 2 of INVERSE_FACTORIALS is the f64 nearest to 1/n!
+table-rule : tie.Need-returns
 unfolding tabulate factorial inverse-factorial ofBits round
-returns c = entry _ _ refl (c .args .n) (omega arith) (omega arith)
+table-rule c = entry _ _ refl (c .args .n) (omega arith) (omega arith)
 
 pub inverse-factorial-spec : {M : Type 1} → statement M
-inverse-factorial-spec = tie.close (tie.spec (λ c. search needs) (λ c. search needs) (λ c. search needs) (λ c. search needs) returns)
+inverse-factorial-spec = tie.close (tie.spec (λ c. search needs) (λ c. search needs) (λ c. search needs) (λ c. search needs) table-rule)

@@ -1,4 +1,4 @@
--- A finite x goes by the definition's parts, a quarter turn on; any other gives the NaN.
+-- A finite x is reduced as the definition says, and its sine is taken a quarter turn further; any other x gives the NaN.
 use borrow.Author.Needs.{needs}
 use Rattle.trigonometry.specs.Trigonometry.{cosine, quarters-of, rest-of}
 use Rattle.trigonometry.proofs.Quarters.{quarter-more}

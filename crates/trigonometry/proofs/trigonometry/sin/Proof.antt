@@ -1,4 +1,4 @@
--- A finite x goes by the definition's parts, any other gives the NaN.
+-- A finite x is reduced as the definition says; any other x gives the NaN.
 use Rattle.trigonometry.specs.Trigonometry.{sine}
 use Rattle.trigonometry.proofs.trigonometry.sin.Statement.{statement}
 use Rattle.trigonometry.proofs.trigonometry.sin.Tie as tie

@@ -1,4 +1,4 @@
--- As for `sin` and `cos`: what they share is worked out once.
+-- As for `sin` and `cos`, with one reduction for both.
 use borrow.Author.Needs.{needs}
 use Rattle.trigonometry.specs.Trigonometry.{sine, cosine, quarters-of, rest-of}
 use Rattle.trigonometry.proofs.Quarters.{quarter-more}

@@ -1,4 +1,4 @@
--- By k's parity and half.
+-- By whether k is even, and in which half of the turn it is.
 use Rattle.trigonometry.proofs.Quarters.{by-parity}
 use Rattle.trigonometry.specs.Trigonometry.{sine-at, sine-sum, cosine-sum}
 use Rattle.trigonometry.proofs.trigonometry.sine_at.Statement.{statement}

@@ -1,0 +1,3 @@
+pub mod Negated
+pub mod AsInSource
+pub mod NeverZero

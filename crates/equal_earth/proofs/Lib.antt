@@ -1,0 +1,2 @@
+pub mod AsInSource
+pub mod NeverZero

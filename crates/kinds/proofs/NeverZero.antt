@@ -1,0 +1,144 @@
+-- A refusal's number is never 0, for whatever is built and answered here: a projection of any kind, and its points.
+use Prim.Native.Nat.{ℕ}
+use mathlib.Core.Path.{_≡_, refl, _∙_}
+use mathlib.Core.List.{List}
+use native.Mathlib.Omega.{arith}
+use lib.Ieee.{Float}
+use Rattle.ellipsoid.specs.Ellipsoid.{from-a-f}
+use Rattle.ellipsoid.specs.declared.Ellipsoid.{Ellipsoid}
+use Rattle.ellipsoid.specs.declared.BuiltEllipsoid.{BuiltEllipsoid}
+use Rattle.ellipsoid.specs.declared.BuiltEllipsoid.the-variants as ellipsoid
+use Rattle.ellipsoid.proofs.NeverZero as ellipsoid-proofs
+use Rattle.projection.specs.Ends.{finish}
+use Rattle.projection.specs.declared.Answer.{Answer}
+use Rattle.projection.specs.declared.Answer.the-variants as answered
+use Rattle.projection.proofs.NeverZero.{NeverZero}
+use Rattle.lambert_azimuthal_equal_area.specs.Inverse as laea
+use Rattle.lambert_azimuthal_equal_area.proofs.NeverZero as laea-proofs
+use Rattle.lambert_azimuthal_equal_area.specs.declared.BuiltLambertAzimuthalEqualArea.{BuiltLambertAzimuthalEqualArea}
+use Rattle.lambert_azimuthal_equal_area.specs.declared.BuiltLambertAzimuthalEqualArea.the-variants as laea-built
+use Rattle.albers_equal_area.specs.AlbersEqualArea as aea
+use Rattle.albers_equal_area.proofs.NeverZero as aea-proofs
+use Rattle.albers_equal_area.specs.declared.BuiltAlbersEqualArea.{BuiltAlbersEqualArea}
+use Rattle.albers_equal_area.specs.declared.BuiltAlbersEqualArea.the-variants as aea-built
+use Rattle.equal_earth.specs.EqualEarth as eqearth
+use Rattle.equal_earth.proofs.NeverZero as eqearth-proofs
+use Rattle.equal_earth.specs.declared.BuiltEqualEarth.{BuiltEqualEarth}
+use Rattle.equal_earth.specs.declared.BuiltEqualEarth.the-variants as eqearth-built
+use Rattle.cassini_soldner.specs.CassiniSoldner as cass
+use Rattle.cassini_soldner.proofs.NeverZero as cass-proofs
+use Rattle.cassini_soldner.specs.declared.BuiltCassiniSoldner.{BuiltCassiniSoldner}
+use Rattle.cassini_soldner.specs.declared.BuiltCassiniSoldner.the-variants as cass-built
+use Rattle.american_polyconic.specs.AmericanPolyconic as poly
+use Rattle.american_polyconic.proofs.NeverZero as poly-proofs
+use Rattle.american_polyconic.specs.declared.BuiltAmericanPolyconic.{BuiltAmericanPolyconic}
+use Rattle.american_polyconic.specs.declared.BuiltAmericanPolyconic.the-variants as poly-built
+use Rattle.guam_projection.specs.GuamProjection as gm
+use Rattle.guam_projection.proofs.NeverZero as gm-proofs
+use Rattle.guam_projection.specs.declared.BuiltGuamProjection.{BuiltGuamProjection}
+use Rattle.guam_projection.specs.declared.BuiltGuamProjection.the-variants as gm-built
+use Rattle.letters.specs.Uses.{used}
+use Rattle.letters.specs.declared.Kind.{Kind}
+use Rattle.letters.specs.declared.Kind.the-variants.{L, S, A, E, C, P, G}
+use Rattle.letters.specs.declared.Way.{Way}
+use Rattle.letters.specs.declared.Way.the-variants.{Forward, Inverse}
+use Rattle.letters.specs.declared.Settings.{Settings}
+use Rattle.kinds.specs.Kinds.{lambert, albers, equal-earth, cassini, polyconic, guam, made, new, forward, forward-of, formula, formula-of, inverse, answer, refused, on-ellipsoid, build, project}
+use Rattle.kinds.specs.declared.Built.{Built}
+use Rattle.kinds.specs.declared.Built.the-variants.{Lambert, Albers, Equal, Cassini, Polyconic, Guam, Refused}
+use Rattle.kinds.specs.declared.Projection.{Projection}
+
+-- a number handed on from one kind of answer to another
+handed : {A B : Type 0} (from : ℕ → A) (to : ℕ → B) → ((k n : ℕ) → to k ≡ to n → k ≡ n) → (k : ℕ) → NeverZero from (from k) → NeverZero to (to k)
+handed from to one k h n e z = h k refl (one k n e ∙ z)
+
+built-one : (k n : ℕ) → Refused k ≡ Refused n → k ≡ n
+built-one k n e = cc
+
+answered-one : (k n : ℕ) → answered.Refused k ≡ answered.Refused n → k ≡ n
+answered-one k n e = cc
+
+-- ---- what the constructor of a kind answers, as a choice
+
+lambert-never-zero : (b : BuiltLambertAzimuthalEqualArea) → NeverZero laea-built.Refused b → NeverZero Refused (lambert b)
+unfolding lambert
+lambert-never-zero (laea-built.Built p) h = λ n e z. let c : _≡_ {A = ℕ} 0 1 = cc in omega arith
+lambert-never-zero (laea-built.Refused k) h = handed laea-built.Refused Refused built-one k h
+
+albers-never-zero : (b : BuiltAlbersEqualArea) → NeverZero aea-built.Refused b → NeverZero Refused (albers b)
+unfolding albers
+albers-never-zero (aea-built.Built p) h = λ n e z. let c : _≡_ {A = ℕ} 0 1 = cc in omega arith
+albers-never-zero (aea-built.Refused k) h = handed aea-built.Refused Refused built-one k h
+
+equal-earth-never-zero : (b : BuiltEqualEarth) → NeverZero eqearth-built.Refused b → NeverZero Refused (equal-earth b)
+unfolding equal-earth
+equal-earth-never-zero (eqearth-built.Built p) h = λ n e z. let c : _≡_ {A = ℕ} 0 1 = cc in omega arith
+equal-earth-never-zero (eqearth-built.Refused k) h = handed eqearth-built.Refused Refused built-one k h
+
+cassini-never-zero : (b : BuiltCassiniSoldner) → NeverZero cass-built.Refused b → NeverZero Refused (cassini b)
+unfolding cassini
+cassini-never-zero (cass-built.Built p) h = λ n e z. let c : _≡_ {A = ℕ} 0 1 = cc in omega arith
+cassini-never-zero (cass-built.Refused k) h = handed cass-built.Refused Refused built-one k h
+
+polyconic-never-zero : (b : BuiltAmericanPolyconic) → NeverZero poly-built.Refused b → NeverZero Refused (polyconic b)
+unfolding polyconic
+polyconic-never-zero (poly-built.Built p) h = λ n e z. let c : _≡_ {A = ℕ} 0 1 = cc in omega arith
+polyconic-never-zero (poly-built.Refused k) h = handed poly-built.Refused Refused built-one k h
+
+guam-never-zero : (b : BuiltGuamProjection) → NeverZero gm-built.Refused b → NeverZero Refused (guam b)
+unfolding guam
+guam-never-zero (gm-built.Built p) h = λ n e z. let c : _≡_ {A = ℕ} 0 1 = cc in omega arith
+guam-never-zero (gm-built.Refused k) h = handed gm-built.Refused Refused built-one k h
+
+made-never-zero : (k : Kind) (e : Ellipsoid) (s : Settings) → NeverZero Refused (made k e s .built)
+unfolding made
+made-never-zero L e s = lambert-never-zero _ (laea-proofs.new-never-zero e (s .lon0) (s .lat0) (s .«false_easting») (s .«false_northing»))
+made-never-zero S e s = lambert-never-zero _ (laea-proofs.new-spherical-never-zero e (s .lon0) (s .lat0) (s .«false_easting») (s .«false_northing»))
+made-never-zero A e s = albers-never-zero _ (aea-proofs.new-never-zero e (s .lon0) (s .lat0) (s .lat1) (s .lat2) (s .«false_easting») (s .«false_northing»))
+made-never-zero E e s = equal-earth-never-zero _ (eqearth-proofs.new-never-zero e (s .lon0) (s .«false_easting») (s .«false_northing»))
+made-never-zero C e s = cassini-never-zero _ (cass-proofs.new-never-zero e (s .lon0) (s .lat0) (s .«false_easting») (s .«false_northing»))
+made-never-zero P e s = polyconic-never-zero _ (poly-proofs.new-never-zero e (s .lon0) (s .lat0) (s .«false_easting») (s .«false_northing»))
+made-never-zero G e s = guam-never-zero _ (gm-proofs.new-never-zero e (s .lon0) (s .lat0) (s .«false_easting») (s .«false_northing»))
+
+pub new-never-zero : (kind : Kind) (e : Ellipsoid) (s : Settings) → NeverZero Refused (new kind e s .built)
+unfolding new
+new-never-zero kind e s = made-never-zero kind e (used kind s)
+
+pub build-never-zero : (kind : Kind) (a f : Float) (s : Settings) → NeverZero Refused (build kind a f s .built)
+unfolding build refused
+build-never-zero kind a f s = go (from-a-f a f) (ellipsoid-proofs.from-a-f-never-zero a f)
+  where
+    go : (b : BuiltEllipsoid) → NeverZero ellipsoid.Refused b → NeverZero Refused (on-ellipsoid kind s b .built)
+    go (ellipsoid.Built e) h = new-never-zero kind e s
+    go (ellipsoid.Refused k) h = handed ellipsoid.Refused Refused built-one k h
+
+-- ---- points, by any projection whose own refusal, if it is one, is not 0
+
+forward-never-zero : (b : Built) (en : List Float) (u v : Float) → NeverZero Refused b → NeverZero answered.Refused (forward-of b en u v)
+unfolding forward-of
+forward-never-zero (Lambert p) en u v h = laea-proofs.forward-never-zero p u v
+forward-never-zero (Albers p) en u v h = aea-proofs.forward-never-zero p u v
+forward-never-zero (Equal p) en u v h = eqearth-proofs.forward-never-zero p u v
+forward-never-zero (Cassini p) en u v h = cass-proofs.forward-never-zero p u v
+forward-never-zero (Polyconic p) en u v h = poly-proofs.forward-never-zero p en u v
+forward-never-zero (Guam p) en u v h = gm-proofs.forward-never-zero p en u v
+forward-never-zero (Refused k) en u v h = handed Refused answered.Refused answered-one k h
+
+inverse-never-zero : (p : Projection) (b : Built) (u v : Float) → p .built ≡ b → NeverZero Refused b → NeverZero answered.Refused (inverse p u v)
+unfolding inverse formula formula-of finish laea.inverse aea.inverse eqearth.inverse cass.inverse poly.inverse gm.inverse
+inverse-never-zero p (Lambert k) u v e h = rw e (laea-proofs.inverse-never-zero k u v)
+inverse-never-zero p (Albers k) u v e h = rw e (aea-proofs.inverse-never-zero k u v)
+inverse-never-zero p (Equal k) u v e h = rw e (eqearth-proofs.inverse-never-zero k u v)
+inverse-never-zero p (Cassini k) u v e h = rw e (cass-proofs.inverse-never-zero k u v)
+inverse-never-zero p (Polyconic k) u v e h = rw e (poly-proofs.inverse-never-zero k (p .en) u v)
+inverse-never-zero p (Guam k) u v e h = rw e (gm-proofs.inverse-never-zero k (p .en) u v)
+inverse-never-zero p (Refused k) u v e h = rw e (handed Refused answered.Refused answered-one k h)
+
+pub answer-never-zero : (way : Way) (p : Projection) (u v : Float) → NeverZero Refused (p .built) → NeverZero answered.Refused (answer way p u v)
+unfolding answer forward
+answer-never-zero Forward p u v h = forward-never-zero (p .built) (p .en) u v h
+answer-never-zero Inverse p u v h = inverse-never-zero p (p .built) u v refl h
+
+pub project-never-zero : (way : Way) (kind : Kind) (a f : Float) (s : Settings) (u v : Float) → NeverZero answered.Refused (project way kind a f s u v)
+unfolding project
+project-never-zero way kind a f s u v = answer-never-zero way (build kind a f s) u v (build-never-zero kind a f s)
