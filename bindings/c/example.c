@@ -1,6 +1,6 @@
 /*
  * IOGP 7-2's Cassini-Soldner example, Trinidad 1903 / Trinidad Grid, in Clarke's links: a point forward and back, and a
- * small column with a refused point in it. Checks its own answers: the exit status is 0 if all are right.
+ * small column with a refused point in it; and a sheet. Checks its own answers: the exit status is 0 if all are right.
  */
 #include "lenthuc.h"
 
@@ -125,6 +125,26 @@ static void other_letters(void)
           "a letter that names no kind");
 }
 
+/* Document 01's example; then an output that is a byte too short, which stays as it is. */
+static void a_sheet(void)
+{
+    static const char sheet[] =
+        "way,kind,a,f,lon0,lat0,lat1,lat2,fe,fn,u,v\n"
+        "F,P,3ff0000000000000,0000000000000000,0000000000000000,0000000000000000,0000000000000000,0000000000000000,"
+        "0000000000000000,0000000000000000,3fe0000000000000,0000000000000000\n";
+    static const char answer[] = "code,p,q\n0,3fe0000000000000,0000000000000000\n";
+    static uint8_t output[LENTHUC_SHEET_ROOM];
+    size_t length = lenthuc_answer_sheet((const uint8_t *)sheet, strlen(sheet), output, sizeof output);
+    printf("a sheet:\n%.*s", (int)length, (const char *)output);
+    check(length == strlen(answer) && memcmp(output, answer, length) == 0, "the sheet's answer");
+    check(output[length] == 0, "what stands after the sheet's answer");
+    output[0] = 'x';
+    check(lenthuc_answer_sheet((const uint8_t *)sheet, strlen(sheet), output, sizeof output - 1) == LENTHUC_SHEET_ROOM,
+          "too short an output");
+    check(output[0] == 'x' && memcmp(output + 1, answer + 1, length - 1) == 0, "what too short an output holds");
+    check(lenthuc_answer_sheet(NULL, 0, NULL, 0) == LENTHUC_SHEET_ROOM, "no output");
+}
+
 int main(void)
 {
     settings();
@@ -133,6 +153,7 @@ int main(void)
     a_column();
     unequal_lengths();
     other_letters();
+    a_sheet();
     if (!wrong) {
         puts("all answers are right");
     }

@@ -1,11 +1,11 @@
 /*
  * Lenthuc: map projections for school planning, each with a proof.
  *
- * Link with the archive libcapi.a and with libm, for fmod alone:
+ * Link with the archive libcapi.a, which tools/bundle calls liblenthuc.a, and with libm, for fmod alone:
  *
  *     cc program.c -I FOLDER FOLDER/libcapi.a -lm
  *
- * The archive is for x86-64 Linux. It exports the five functions below and no other name.
+ * The archive is for x86-64 Linux. It exports the six functions below and no other name.
  *
  * What holds of every call:
  *
@@ -28,7 +28,7 @@
  * - The floating-point environment is the default one: round to nearest, subnormal numbers kept, no traps. A program that gcc
  *   or clang links with -Ofast or -ffast-math does not keep subnormal numbers, and some answers are then others.
  *
- * 'Proved' below is by Rattle, for every input: the definitions are those of crates/capi/specs.
+ * 'Proved' below is by Rattle, for every input: the definitions are those of crates/capi/specs and crates/sheet/specs.
  */
 #ifndef LENTHUC_H
 #define LENTHUC_H
@@ -156,6 +156,20 @@ uint8_t lenthuc_column(uint8_t way, uint8_t kind, double a, double f, double lon
                        double fe, double fn, const double *u, size_t us, const double *v, size_t vs,
                        double *LENTHUC_RESTRICT p, size_t ps, double *LENTHUC_RESTRICT q, size_t qs,
                        uint8_t *LENTHUC_RESTRICT numbers, size_t ns);
+
+/* The most bytes that a sheet may have; and room for the longest answer to a sheet. */
+#define LENTHUC_SHEET_LIMIT 65536
+#define LENTHUC_SHEET_ROOM 2357757
+
+/*
+ * Answers a sheet, text for text: the README says what a sheet is. input and output have in and room bytes. Returns the length
+ * of the answer, which stands at the output's start; every other byte of the output is as it was. An output that has less
+ * than LENTHUC_SHEET_ROOM bytes is left as it is, and LENTHUC_SHEET_ROOM is returned, which is then more than room. A sheet
+ * over the limit is answered by a line that says so, so no more than one byte over it need be handed in.
+ * Proved: the output is that of the definition sheet-text, and the length is its length; or room is too little, and the output
+ * is as it was.
+ */
+size_t lenthuc_answer_sheet(const uint8_t *input, size_t in, uint8_t *LENTHUC_RESTRICT output, size_t room);
 
 #ifdef __cplusplus
 }

@@ -1,4 +1,4 @@
-//! The archive's five functions, as `bindings/c/lenthuc.h` documents them. All unsafe code is here.
+//! Five of the archive's functions, as `bindings/c/lenthuc.h` documents them. All unsafe code is here.
 
 use crate::settings::{Settings, Way};
 

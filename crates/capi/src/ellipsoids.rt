@@ -13,7 +13,7 @@ pub extern "C" fn lenthuc_from_a_f(a: f64, f: f64) -> u8
     built_number(Ellipsoid::from_a_f(a, f))
 }
 
-// Gives the number, and puts the flattening, +0 of a refusal, where f refers to.
+// Returns the number, and stores the flattening in f: +0 where it is refused.
 #[no_mangle]
 pub extern "C" fn lenthuc_from_a_rf(a: f64, rf: f64, f: &mut f64) -> u8
     ensures { λ r. ⌜ (r ≡ built-number (from-a-rf a rf)) × (now (f .exit) ≡ built-flattening (from-a-rf a rf)) ⌝ }

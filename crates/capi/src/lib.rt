@@ -2,3 +2,4 @@
 mod columns;
 mod ellipsoids;
 mod points;
+mod sheets;

@@ -52,7 +52,7 @@ pub extern "C" fn lenthuc_new(
     built_number(build(b'F', kind, a, f, settings))
 }
 
-// Gives the number, and puts the two results where p and q refer to.
+// Returns the number, and stores the two results in p and q.
 #[no_mangle]
 pub extern "C" fn lenthuc_project(
     way: u8,

@@ -11,7 +11,7 @@ use letters::Settings;
 use letters::Way;
 use projection::Answer;
 
-// No projection, and why.
+// A projection that was refused: it answers every point by the number n.
 pub fn refused(n: u8) -> Projection
     ensures { λ r. ⌜ r ≡ refused n ⌝ }
 {
@@ -47,7 +47,7 @@ pub fn built_number(p: Projection) -> u8
     }
 }
 
-// One point by a projection that was built before, or its refusal.
+// Answers one point by a projection that was built before.
 pub fn answer(way: Way, p: Projection, u: f64, v: f64) -> Answer
     ensures { λ r. ⌜ (r ≡ answer way p u v) × PointOnTheMap way p u v r ⌝ }
 {
@@ -57,7 +57,7 @@ pub fn answer(way: Way, p: Projection, u: f64, v: f64) -> Answer
     }
 }
 
-// One point with all that it needs.
+// Builds the projection and answers one point.
 pub fn project(way: Way, kind: Kind, a: f64, f: f64, settings: Settings, u: f64, v: f64) -> Answer
     ensures { λ r. ⌜ (r ≡ project way kind a f settings u v) × PointOnTheMap way (build kind a f settings) u v r ⌝ }
 {

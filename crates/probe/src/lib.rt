@@ -14,7 +14,7 @@ ghost use Rattle.trigonometry.specs.Turns.{rem-euclid};
 mod of_ellipsoid;
 mod of_projection;
 
-// What a call costs.
+// Does nothing: it measures what a call costs.
 #[no_mangle]
 pub extern "C" fn probe_identity(x: f64) -> f64
     ensures { λ r. ⌜ r ≡ x ⌝ }

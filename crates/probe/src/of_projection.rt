@@ -28,7 +28,7 @@ pub extern "C" fn probe_validate_latitude_param(value: f64) -> u8
     projection::validate_latitude_param(value)
 }
 
-// Of the false easting.
+// By the false easting's number.
 #[no_mangle]
 pub extern "C" fn probe_validate_offset(value: f64) -> u8
     ensures { λ r. ⌜ r ≡ validate-offset value FALSE-EASTING ⌝ }

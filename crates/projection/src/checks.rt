@@ -40,7 +40,7 @@ pub fn validate_latitude_param(value: f64) -> u8
     }
 }
 
-// The number says which offset it is.
+// `number` is the refusal of this offset: the false easting's or the false northing's.
 pub fn validate_offset(value: f64, number: u8) -> u8
     ensures { λ r. ⌜ r ≡ validate-offset value number ⌝ }
 {

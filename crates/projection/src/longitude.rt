@@ -3,7 +3,7 @@ ghost use Rattle.projection.specs.Longitude.{normalize-longitude};
 use float::PI;
 use trigonometry::rem_euclid;
 
-// The longitude in [-π, π], some whole turns away: π for what comes to -π from the east.
+// Brings a longitude into [-π, π] by whole turns. A positive one that would come out as -π is given as π.
 pub fn normalize_longitude(lon: f64) -> f64
     ensures { λ r. ⌜ r ≡ normalize-longitude lon ⌝ }
 {

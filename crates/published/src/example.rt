@@ -53,7 +53,7 @@ fn project(way: Way, e: Example, u: f64, v: f64) -> Answer {
     kinds::project(way, kind, e.ellipsoid.a, e.ellipsoid.f, settings, u, v)
 }
 
-// Whether an answer is within a distance of what is printed; it is written.
+// Whether an answer is within a distance of what is printed. It writes which.
 fn is_held(name: &[u8], ours: f64, printed: f64, within: f64) -> bool {
     io::write_all(STDOUT_FILENO, name);
     if abs(ours - printed) <= within {
@@ -64,7 +64,7 @@ fn is_held(name: &[u8], ours: f64, printed: f64, within: f64) -> bool {
     false
 }
 
-// The count after one more answer, whose line ends.
+// Ends the line, and counts one answer more.
 fn counted(tally: Tally, first: bool, second: bool) -> Tally {
     io::write_all(STDOUT_FILENO, b"\n");
     if first & second {

@@ -7,7 +7,7 @@ use crate::hex::put_hex;
 use float::bits_of;
 use projection::Answer;
 
-// This and the next write a text from a place on, and give the place after it.
+// This and the functions below write a text from `at` on, and return the place after it.
 fn put_decimal(out: &mut [u8], at: usize, n: u8) -> usize
     requires { ⌜ at + length (decimal n) ≤ length (now out) ⌝ }
     ensures { λ r. ⌜ Written (now (out .entry)) at (decimal n) r (now (out .exit)) ⌝ }

@@ -6,7 +6,7 @@ ghost use Rattle.sheet.specs.Fields.{before, field, field-at, field-star
 
 const COMMA: u8 = b',';
 
-// Where what stands before the next c ends, from a place on.
+// The index of the first c at or after `from`, or the length where there is none; `from` itself where that is past the end.
 pub(crate) fn end_of(s: &[u8], from: usize, c: u8) -> usize
     ensures { λ r. ⌜ r ≡ from + length (before c (drop from (now (s .entry)))) ⌝ }
 {
@@ -20,7 +20,7 @@ pub(crate) fn end_of(s: &[u8], from: usize, c: u8) -> usize
     i
 }
 
-// Where the next field starts, after the one that starts at a place. Past the line's end there is none, and the place stays.
+// The start of the field after the one that starts at `at`: past its comma, or past the line's end. An `at` past the end stays.
 pub(crate) fn next_start(line: &[u8], at: usize) -> usize
     ensures { λ r. ⌜ r ≡ next-start (now (line .entry)) at ⌝ }
 {
@@ -31,7 +31,7 @@ pub(crate) fn next_start(line: &[u8], at: usize) -> usize
     }
 }
 
-// The part of the line that holds the field that starts at a place; an empty part past the line's end.
+// The field that starts at `at`, a part of the line; an empty part where `at` is past the line's end.
 pub(crate) fn part(line: &[u8], at: usize, next: usize) -> &[u8]
     requires { ⌜ next ≡ next-start (now line) at ⌝ }
     ensures { λ r. ⌜ now r ≡ field-at (now (line .entry)) at ⌝ }
@@ -43,7 +43,7 @@ pub(crate) fn part(line: &[u8], at: usize, next: usize) -> &[u8]
     }
 }
 
-// The part of the line that holds field i, uncopied: so many bytes of the line, from the field's start on.
+// Field i, uncopied: the part of the caller's line that begins at the field's start. Empty where the line has no such field.
 pub fn field(line: &[u8], i: usize) -> &[u8]
     ensures { λ r. ⌜ now r ≡ field (now (line .entry)) i ⌝ }
     ensures { λ r. ⌜ now r ≡ take (length (now r)) (drop (field-start (now (line .entry)) i) (now (line .entry))) ⌝ }

@@ -47,7 +47,7 @@ fn glyph(d: u64) -> u8
     if d < 10 { 48 + d as u8 } else { 87 + d as u8 }
 }
 
-// Writes sixteen digits from a place on, the last one first.
+// Writes sixteen digits from `at` on. It goes from the last digit to the first.
 pub(crate) fn put_hex(out: &mut [u8], at: usize, bits: u64)
     requires { ⌜ at + 16 ≤ length (now out) ⌝ }
     ensures { λ _. ⌜ now (out .exit) ≡ sets (now (out .entry)) at (digits 16 bits) ⌝ }

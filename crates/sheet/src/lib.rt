@@ -12,6 +12,7 @@ pub use sheet_text::LIMIT;
 pub use sheet_text::ROOM;
 pub use sheet_text::answer;
 pub use sheet_text::answer_sheet;
+pub use sheet_text::answer_sheet_into;
 pub use value_line::ValueLine;
 pub use value_line::Values;
 pub use value_line::read_line;

@@ -4,7 +4,7 @@ ghost use Prim.Native.Nat.{_+_, _-_, _*_, _≤_};
 ghost use lib.ListN.{length, drop};
 ghost use Rattle.sheet.specs.SheetText.{answer, lines, body, sheet-text};
 ghost use Rattle.sheet.specs.OnTheMap.{LineOnTheMap, LinesOnTheMap, SheetOnTheMap};
-ghost use Rattle.sheet.specs.Written.{Written};
+ghost use Rattle.sheet.specs.Written.{Written, WrittenWithin};
 use crate::answer_line::put_answer;
 use crate::fields::end_of;
 use crate::value_line::ValueLine;
@@ -34,7 +34,7 @@ pub fn answer(line: &[u8]) -> Answer
     }
 }
 
-// Answers the lines from a place of the input on: 36 bytes of room for each byte are always enough.
+// Answers the lines of the input from `from` on. 36 bytes of room for each of its bytes are always enough.
 fn put_body(input: &[u8], from: usize, out: &mut [u8], at: usize) -> usize
     requires { ⌜ at + 36 * (length (now input) - from) ≤ length (now out) ⌝ }
     ensures { λ r. ⌜ Written (now (out .entry)) at (body (lines (drop from (now (input .entry))))) r (now (out .exit)) × LinesOnTheMap (lines (drop from (now (input .entry)))) ⌝ }
@@ -70,4 +70,15 @@ pub fn answer_sheet(input: &[u8], out: &mut [u8; ROOM]) -> usize
     ensures { λ r. ⌜ Written (now (out .entry)) 0 (sheet-text (now (input .entry))) r (now (out .exit)) × SheetOnTheMap (now (input .entry)) ⌝ }
 {
     put_sheet(input, out)
+}
+
+// The same into a buffer of any length. One that is shorter than ROOM stays as it is, and ROOM is given.
+pub fn answer_sheet_into(input: &[u8], out: &mut [u8]) -> usize
+    ensures { λ r. do room ← ⟦ROOM⟧ .entry; ⌜ WrittenWithin room (now (out .entry)) (sheet-text (now (input .entry))) r (now (out .exit)) × (room ≤ length (now (out .entry)) → SheetOnTheMap (now (input .entry))) ⌝ }
+{
+    if out.len() < ROOM {
+        ROOM
+    } else {
+        put_sheet(input, out)
+    }
 }
