@@ -1,6 +1,7 @@
 /*
- * IOGP 7-2's Cassini-Soldner example, Trinidad 1903 / Trinidad Grid, in Clarke's links: a point forward and back, and a
- * small column with a refused point in it; and a sheet. Checks its own answers: the exit status is 0 if all are right.
+ * IOGP 7-2's Cassini-Soldner example, Trinidad 1903 / Trinidad Grid, in Clarke's links: a projection that is built once, a
+ * point forward and back, and a small column with a refused point in it; then projections that are refused, and a sheet.
+ * Checks its own answers: the exit status is 0 if all are right. It is C89, and C++ too.
  */
 #include "lenthuc.h"
 
@@ -11,13 +12,8 @@
 
 static const double pi = 3.14159265358979323846;
 
-/* The projection's settings. A Cassini-Soldner has no parallels. */
-static const uint8_t kind = LENTHUC_CASSINI;
-static const double a = 31706587.88;
-static const double inverse_flattening = 294.2606764;
-static const double false_easting = 430000.0;
-static const double false_northing = 325000.0;
-static double f, lon0, lat0;
+static struct lenthuc_settings settings;
+static struct lenthuc_projection trinidad;
 
 static int wrong = 0;
 
@@ -29,74 +25,105 @@ static void check(int right, const char *what)
     }
 }
 
-static double radians(double degrees)
+static double radians(double angle)
 {
-    return degrees * (pi / 180.0);
+    return angle * (pi / 180.0);
 }
 
-static uint64_t bits(double x)
+static double degrees(double angle)
+{
+    return angle * (180.0 / pi);
+}
+
+/* Whether x has the pattern whose first and second half these are. */
+static int is(double x, uint32_t first, uint32_t second)
 {
     uint64_t pattern;
     memcpy(&pattern, &x, sizeof pattern);
-    return pattern;
+    return pattern >> 32 == first && (pattern & 0xffffffff) == second;
 }
 
-static uint8_t project(uint8_t way, double u, double v, double *p, double *q)
+static int same(double x, double y)
 {
-    return lenthuc_project(way, kind, a, f, lon0, lat0, 0.0, 0.0, false_easting, false_northing, u, v, p, q);
+    return memcmp(&x, &y, sizeof x) == 0;
 }
 
-static void settings(void)
+static void the_version(void)
 {
-    lon0 = radians(-(61.0 + 20.0 / 60.0));
-    lat0 = radians(10.0 + 26.0 / 60.0 + 30.0 / 3600.0);
-    check(lenthuc_from_a_rf(a, inverse_flattening, &f) == LENTHUC_ANSWERED, "the ellipsoid");
-    check(lenthuc_from_a_f(a, f) == LENTHUC_ANSWERED, "the ellipsoid by its flattening");
-    check(lenthuc_new(kind, a, f, lon0, lat0, 0.0, 0.0, false_easting, false_northing) == LENTHUC_ANSWERED,
-          "the projection");
+    printf("version: %d\n", (int)lenthuc_version());
+    check(lenthuc_version() == LENTHUC_VERSION, "the archive's version");
+}
+
+/* What is not set here is 0: a Cassini-Soldner has no parallels. */
+static void a_projection(void)
+{
+    uint8_t number;
+    settings.a = 31706587.88;
+    check(lenthuc_from_a_rf(settings.a, 294.2606764, &settings.f) == LENTHUC_ANSWERED, "the ellipsoid");
+    check(lenthuc_from_a_f(settings.a, settings.f) == LENTHUC_ANSWERED, "the ellipsoid by its flattening");
+    settings.lon0 = radians(-(61.0 + 20.0 / 60.0));
+    settings.lat0 = radians(10.0 + 26.0 / 60.0 + 30.0 / 3600.0);
+    settings.fe = 430000.0;
+    settings.fn = 325000.0;
+    number = lenthuc_build(LENTHUC_CASSINI, &settings, &trinidad);
+    printf("building: %s\n", lenthuc_words(number));
+    check(number == LENTHUC_ANSWERED, "the projection");
 }
 
 static void a_point_forward(void)
 {
     double easting, northing;
-    uint8_t number = project(LENTHUC_FORWARD, radians(-62.0), radians(10.0), &easting, &northing);
+    uint8_t number = lenthuc_forward(&trinidad, radians(-62.0), radians(10.0), &easting, &northing);
     printf("62 W, 10 N: number %d, easting %.4f, northing %.4f\n", number, easting, northing);
     check(number == LENTHUC_ANSWERED, "the number forward");
-    check(bits(easting) == UINT64_C(0x40f0454f0bdb9460), "the easting");
-    check(bits(northing) == UINT64_C(0x40f426837fe7fd8f), "the northing");
+    check(is(easting, 0x40f0454f, 0x0bdb9460), "the easting");
+    check(is(northing, 0x40f42683, 0x7fe7fd8f), "the northing");
 }
 
 static void a_point_back(void)
 {
     double lon, lat;
-    uint8_t number = project(LENTHUC_INVERSE, 66644.94, 82536.22, &lon, &lat);
-    printf("66644.94, 82536.22: number %d, longitude %.8f, latitude %.8f degrees\n", number, lon * (180.0 / pi),
-           lat * (180.0 / pi));
+    uint8_t number = lenthuc_inverse(&trinidad, 66644.94, 82536.22, &lon, &lat);
+    printf("66644.94, 82536.22: number %d, longitude %.8f, latitude %.8f degrees\n", number, degrees(lon), degrees(lat));
     check(number == LENTHUC_ANSWERED, "the number back");
-    check(bits(lon) == UINT64_C(0xbff1504c6d40e818), "the longitude");
-    check(bits(lat) == UINT64_C(0x3fc657184afb646b), "the latitude");
+    check(is(lon, 0xbff1504c, 0x6d40e818), "the longitude");
+    check(is(lat, 0x3fc65718, 0x4afb646b), "the latitude");
 }
 
 /* The third point's latitude is beyond a pole. Its neighbours are answered as single calls answer them. */
 static void a_column(void)
 {
-    static const uint8_t expected[POINTS] = {LENTHUC_ANSWERED, LENTHUC_ANSWERED, LENTHUC_FORWARD_BEYOND, LENTHUC_ANSWERED};
-    const double lon[POINTS] = {radians(-62.0), radians(-61.5), radians(-61.5), radians(-61.0)};
-    const double lat[POINTS] = {radians(10.0), radians(10.5), radians(105.0), radians(11.0)};
-    double easting[POINTS], northing[POINTS];
+    static const double homes[POINTS][2] = {{-62.0, 10.0}, {-61.5, 10.5}, {-61.5, 105.0}, {-61.0, 11.0}};
+    double lon[POINTS], lat[POINTS], easting[POINTS], northing[POINTS];
     uint8_t numbers[POINTS];
+    uint8_t said;
     size_t i;
-    uint8_t said = lenthuc_column(LENTHUC_FORWARD, kind, a, f, lon0, lat0, 0.0, 0.0, false_easting, false_northing, lon,
-                                  POINTS, lat, POINTS, easting, POINTS, northing, POINTS, numbers, POINTS);
+    for (i = 0; i < POINTS; i++) {
+        lon[i] = radians(homes[i][0]);
+        lat[i] = radians(homes[i][1]);
+    }
+    said = lenthuc_forward_column(&trinidad, lon, POINTS, lat, POINTS, easting, POINTS, northing, POINTS, numbers, POINTS);
     check(said == LENTHUC_ANSWERED, "the column");
     for (i = 0; i < POINTS; i++) {
         double p, q;
-        uint8_t number = project(LENTHUC_FORWARD, lon[i], lat[i], &p, &q);
-        printf("point %d: number %d, easting %.4f, northing %.4f\n", (int)i, numbers[i], easting[i], northing[i]);
-        check(numbers[i] == expected[i] && numbers[i] == number, "a number of the column");
-        check(bits(easting[i]) == bits(p) && bits(northing[i]) == bits(q), "a pair of the column");
+        uint8_t number = lenthuc_forward(&trinidad, lon[i], lat[i], &p, &q);
+        if (numbers[i] == LENTHUC_ANSWERED) {
+            printf("point %d: easting %.4f, northing %.4f\n", (int)i, easting[i], northing[i]);
+        } else {
+            printf("point %d: %s\n", (int)i, lenthuc_words(numbers[i]));
+        }
+        check(numbers[i] == (i == 2 ? LENTHUC_FORWARD_BEYOND : LENTHUC_ANSWERED), "a number of the column");
+        check(numbers[i] == number && same(easting[i], p) && same(northing[i], q), "a single call for the column's");
     }
-    check(bits(easting[2]) == 0 && bits(northing[2]) == 0, "the refused point's results");
+    check(is(easting[2], 0, 0) && is(northing[2], 0, 0), "the refused point's results");
+
+    /* The first two back: a part of a column is a column. */
+    said = lenthuc_inverse_column(&trinidad, easting, 2, northing, 2, lon, 2, lat, 2, numbers, 2);
+    check(said == LENTHUC_ANSWERED && numbers[0] == LENTHUC_ANSWERED && numbers[1] == LENTHUC_ANSWERED, "the column back");
+    for (i = 0; i < 2; i++) {
+        double off_lon = degrees(lon[i]) - homes[i][0], off_lat = degrees(lat[i]) - homes[i][1];
+        check(-1e-8 < off_lon && off_lon < 1e-8 && -1e-8 < off_lat && off_lat < 1e-8, "a point of the column back");
+    }
 }
 
 /* One longitude too few: the call says so, and what is lent stays as it is. */
@@ -106,23 +133,64 @@ static void unequal_lengths(void)
     const double lat[2] = {0.0, 0.0};
     double easting[2] = {1.0, 2.0}, northing[2] = {3.0, 4.0};
     uint8_t numbers[2] = {5, 6};
-    uint8_t said = lenthuc_column(LENTHUC_FORWARD, kind, a, f, lon0, lat0, 0.0, 0.0, false_easting, false_northing, lon,
-                                  1, lat, 2, easting, 2, northing, 2, numbers, 2);
-    printf("unequal lengths: %d\n", said);
+    uint8_t said = lenthuc_forward_column(&trinidad, lon, 1, lat, 2, easting, 2, northing, 2, numbers, 2);
+    printf("a longitude too few: %s\n", lenthuc_words(said));
     check(said == LENTHUC_UNEQUAL_LENGTHS, "unequal lengths");
     check(easting[0] == 1.0 && easting[1] == 2.0 && northing[0] == 3.0 && northing[1] == 4.0 && numbers[0] == 5 &&
               numbers[1] == 6,
           "what was lent to unequal lengths");
+    check(lenthuc_forward_column(&trinidad, NULL, 0, NULL, 0, NULL, 0, NULL, 0, NULL, 0) == LENTHUC_ANSWERED, "no points");
 }
 
-static void other_letters(void)
+/* Whether every call by the projection gives the number, and +0 for results. */
+static int all_refused(const struct lenthuc_projection *projection, uint8_t number)
 {
-    double p, q;
-    uint8_t number = project('f', radians(-62.0), radians(10.0), &p, &q);
-    printf("the way f: %d\n", number);
-    check(number == LENTHUC_LINE_FORM && bits(p) == 0 && bits(q) == 0, "a letter that names no way");
-    check(lenthuc_new('c', a, f, lon0, lat0, 0.0, 0.0, false_easting, false_northing) == LENTHUC_LINE_FORM,
-          "a letter that names no kind");
+    const double u[2] = {-1.0, 0.5}, v[2] = {0.2, 9.0};
+    double p[2] = {1.0, 2.0}, q[2] = {3.0, 4.0};
+    uint8_t numbers[2] = {99, 99};
+    double x, y;
+    int right = lenthuc_forward(projection, u[0], v[0], &x, &y) == number && is(x, 0, 0) && is(y, 0, 0);
+    right = right && lenthuc_inverse(projection, u[0], v[0], &x, &y) == number && is(x, 0, 0) && is(y, 0, 0);
+    right = right && lenthuc_inverse_column(projection, u, 1, v, 1, p, 1, q, 1, numbers, 1) == LENTHUC_ANSWERED;
+    right = right && numbers[0] == number && is(p[0], 0, 0) && is(q[0], 0, 0);
+    right = right && lenthuc_forward_column(projection, u, 2, v, 2, p, 2, q, 2, numbers, 2) == LENTHUC_ANSWERED;
+    return right && numbers[0] == number && numbers[1] == number && is(p[0], 0, 0) && is(p[1], 0, 0) && is(q[0], 0, 0) &&
+           is(q[1], 0, 0);
+}
+
+/* A projection that was refused answers every point by its own number; so do a wrong letter, and numbers that no one built. */
+static void refused_projections(void)
+{
+    struct lenthuc_settings sphere = settings;
+    struct lenthuc_projection refused, nothing;
+    uint8_t number;
+    sphere.f = 0.0;
+    number = lenthuc_build(LENTHUC_GUAM, &sphere, &refused);
+    printf("Guam on a sphere: %s\n", lenthuc_words(number));
+    check(number == LENTHUC_SPHERE && all_refused(&refused, number), "a refused projection");
+    number = lenthuc_build('c', &settings, &refused);
+    printf("the kind c: %s\n", lenthuc_words(number));
+    check(number == LENTHUC_LINE_FORM && all_refused(&refused, number), "a letter that names no kind");
+    memset(&nothing, 0, sizeof nothing);
+    check(all_refused(&nothing, LENTHUC_LINE_FORM), "31 zeros");
+    refused = trinidad;
+    check(!all_refused(&refused, LENTHUC_LINE_FORM), "a copy of a built projection");
+}
+
+/* Every number that a call may return has words of its own, and no other number has any. */
+static void words(void)
+{
+    int count = 0, i, j;
+    for (i = 0; i < 256; i++) {
+        const char *said = lenthuc_words((uint8_t)i);
+        count += said != NULL;
+        check((said != NULL) == (i == 0 || (2 <= i && i <= 24) || i == 255), "a number's words");
+        for (j = 0; j < i; j++) {
+            const char *other = lenthuc_words((uint8_t)j);
+            check(said == NULL || other == NULL || strcmp(said, other) != 0, "words that come twice");
+        }
+    }
+    printf("numbers with words: %d\n", count);
 }
 
 /* Document 01's example; then an output that is a byte too short, which stays as it is. */
@@ -147,12 +215,14 @@ static void a_sheet(void)
 
 int main(void)
 {
-    settings();
+    the_version();
+    a_projection();
     a_point_forward();
     a_point_back();
     a_column();
     unequal_lengths();
-    other_letters();
+    refused_projections();
+    words();
     a_sheet();
     if (!wrong) {
         puts("all answers are right");

@@ -1,16 +1,29 @@
 /*
- * Lenthuc: map projections for school planning, each with a proof.
+ * Lenthuc: map projections for school planning, each with a proof. For C89 and later, and C++.
  *
  * Link with the archive libcapi.a, which tools/bundle calls liblenthuc.a, and with libm, for fmod alone:
  *
  *     cc program.c -I FOLDER FOLDER/libcapi.a -lm
  *
- * The archive is for x86-64 Linux. It exports the six functions below and no other name.
+ * The archive is for x86-64 Linux. It exports the functions that are declared below and no other name.
+ *
+ * A projection is built once and kept by the caller:
+ *
+ *     struct lenthuc_settings settings = {6378137.0, 1 / 298.257223563, 0, 0, 0, 0, 0, 0};
+ *     struct lenthuc_projection world;
+ *     double easting, northing;
+ *     uint8_t number = lenthuc_build(LENTHUC_EQUAL_EARTH, &settings, &world);
+ *     if (number == LENTHUC_ANSWERED) {
+ *         number = lenthuc_forward(&world, 0.2, 0.9, &easting, &northing);
+ *     }
+ *     if (number != LENTHUC_ANSWERED) {
+ *         fprintf(stderr, "%s\n", lenthuc_words(number));
+ *     }
  *
  * What holds of every call:
  *
  * - Angles are radians. Lengths have the unit of the semi-major axis a.
- * - The number that a call returns is 0 where it answers. Otherwise it says why not: enum lenthuc_number.
+ * - The number that a call returns is 0 where it answers. Otherwise it says why not: enum lenthuc_number, lenthuc_words.
  *   Where several refusals apply the first in the order of that list is given, but for the latitudes: lat0 is checked by 7
  *   and 8, then lat1, then lat2.
  * - Where a point is refused its results are +0. Where it is answered they are finite.
@@ -28,7 +41,8 @@
  * - The floating-point environment is the default one: round to nearest, subnormal numbers kept, no traps. A program that gcc
  *   or clang links with -Ofast or -ffast-math does not keep subnormal numbers, and some answers are then others.
  *
- * 'Proved' below is by Rattle, for every input: the definitions are those of crates/capi/specs and crates/sheet/specs.
+ * 'Proved' below is by Rattle, for every input: the definitions are those of crates/NAME/specs, where NAME is capi, ellipsoid,
+ * kinds, packing or sheet.
  */
 #ifndef LENTHUC_H
 #define LENTHUC_H
@@ -36,19 +50,30 @@
 #include <stddef.h>
 #include <stdint.h>
 
-#ifdef __cplusplus
-/* C++ has no such word. */
+/* Words that C89 or C++ does not have. */
+#if defined(__cplusplus)
 #define LENTHUC_RESTRICT
-extern "C" {
-#else
+#define LENTHUC_INLINE static inline
+#elif defined(__STDC_VERSION__) && __STDC_VERSION__ >= 199901L
 #define LENTHUC_RESTRICT restrict
+#define LENTHUC_INLINE static inline
+#elif defined(__GNUC__)
+#define LENTHUC_RESTRICT __restrict__
+#define LENTHUC_INLINE static __inline__
+#else
+#define LENTHUC_RESTRICT
+#define LENTHUC_INLINE static
 #endif
 
-/* The way of a projection, by its letter. */
-enum lenthuc_way {
-    LENTHUC_FORWARD = 'F', /* u, v are longitude and latitude; p, q are easting and northing */
-    LENTHUC_INVERSE = 'I'  /* u, v are easting and northing; p, q are longitude and latitude */
-};
+#ifdef __cplusplus
+extern "C" {
+#endif
+
+/* The version of this header, 0.2.0. The archive tells its own by lenthuc_version: where they differ, do not use it. */
+#define LENTHUC_VERSION 200
+
+/* The version of the archive, as LENTHUC_VERSION. */
+uint32_t lenthuc_version(void);
 
 /* The kind of a projection, by its letter. */
 enum lenthuc_kind {
@@ -61,58 +86,93 @@ enum lenthuc_kind {
     LENTHUC_GUAM = 'G'               /* Guam projection */
 };
 
-/* 0, or why there is no answer: what the comment above a number says. */
+/* 0, or why there is no answer: lenthuc_words says it. */
 enum lenthuc_number {
     LENTHUC_ANSWERED = 0,
-    /* a line does not have the sheet's form, or a letter names no way or no kind */
     LENTHUC_LINE_FORM = 2,
-    /* the inverse flattening (1/f) is not a finite number above 1 */
     LENTHUC_INVERSE_FLATTENING = 3,
-    /* the semi-major axis (a) is not a finite number above 0 */
     LENTHUC_SEMI_MAJOR_AXIS = 4,
-    /* the flattening (f) is not a number from 0 up to, but not including, 1 */
     LENTHUC_FLATTENING = 5,
-    /* the origin's longitude (lon0) is not a finite number */
     LENTHUC_LON0 = 6,
-    /* the latitude of the origin (lat0) or of a parallel (lat1, lat2) is not a finite number */
     LENTHUC_LATITUDE_SETTING = 7,
-    /* the latitude of the origin (lat0) or of a parallel (lat1, lat2) is beyond 90 degrees (pi/2 + 1e-12) */
     LENTHUC_LATITUDE_SETTING_BEYOND = 8,
-    /* the false easting (fe) is not a finite number */
     LENTHUC_FALSE_EASTING = 9,
-    /* the false northing (fn) is not a finite number */
     LENTHUC_FALSE_NORTHING = 10,
-    /* Guam: the ellipsoid is a sphere (e2 is 0) */
     LENTHUC_SPHERE = 11,
-    /* Lambert: q at the pole is not a finite number above 0 */
     LENTHUC_POLAR_Q = 12,
-    /* Lambert: the origin is near a pole but not at it (its authalic cosine is below 1e-12 in size) */
     LENTHUC_ORIGIN_NEAR_POLE = 13,
-    /* Lambert: the origin's scale (d) is not a finite number above 0 */
     LENTHUC_ORIGIN_SCALE = 14,
-    /* Albers: the parallels make no cone (its constant n is below 1e-12 in size) */
     LENTHUC_CONE_CONSTANT = 15,
-    /* the longitude or latitude given is not a finite number */
     LENTHUC_FORWARD_INPUT = 16,
-    /* the latitude given is beyond 90 degrees (pi/2 + 1e-12) */
     LENTHUC_FORWARD_BEYOND = 17,
-    /* Lambert: the point is opposite the origin (the denominator is 0 or below) */
     LENTHUC_ANTIPODE = 18,
-    /* the easting or northing worked out is not a finite number */
     LENTHUC_FORWARD_RESULT = 19,
-    /* the easting or northing given is not a finite number */
     LENTHUC_INVERSE_INPUT = 20,
-    /* polyconic: a step of the inverse meets a pole (the cosine is below 1e-12 in size) */
     LENTHUC_STEP_AT_POLE = 21,
-    /* the steps of the inverse are used up before it settles (15 steps; polyconic 20) */
     LENTHUC_STEPS_USED_UP = 22,
-    /* the longitude or latitude worked out is not a finite number */
     LENTHUC_INVERSE_RESULT = 23,
-    /* the latitude worked out is beyond 90 degrees (pi/2 + 1e-12) */
     LENTHUC_INVERSE_BEYOND = 24,
-    /* the columns have unequal lengths: nothing is read or written */
     LENTHUC_UNEQUAL_LENGTHS = 255
 };
+
+/* A number in words. Of a number that is none of the above: NULL. */
+LENTHUC_INLINE const char *lenthuc_words(uint8_t number)
+{
+    switch (number) {
+    case LENTHUC_ANSWERED:
+        return "answered";
+    case LENTHUC_LINE_FORM:
+        return "a line does not have the sheet's form, or a letter names no way or no kind";
+    case LENTHUC_INVERSE_FLATTENING:
+        return "the inverse flattening (1/f) is not a finite number above 1";
+    case LENTHUC_SEMI_MAJOR_AXIS:
+        return "the semi-major axis (a) is not a finite number above 0";
+    case LENTHUC_FLATTENING:
+        return "the flattening (f) is not a number from 0 up to, but not including, 1";
+    case LENTHUC_LON0:
+        return "the origin's longitude (lon0) is not a finite number";
+    case LENTHUC_LATITUDE_SETTING:
+        return "the latitude of the origin (lat0) or of a parallel (lat1, lat2) is not a finite number";
+    case LENTHUC_LATITUDE_SETTING_BEYOND:
+        return "the latitude of the origin (lat0) or of a parallel (lat1, lat2) is beyond 90 degrees (pi/2 + 1e-12)";
+    case LENTHUC_FALSE_EASTING:
+        return "the false easting (fe) is not a finite number";
+    case LENTHUC_FALSE_NORTHING:
+        return "the false northing (fn) is not a finite number";
+    case LENTHUC_SPHERE:
+        return "Guam: the ellipsoid is a sphere (e2 is 0)";
+    case LENTHUC_POLAR_Q:
+        return "Lambert: q at the pole is not a finite number above 0";
+    case LENTHUC_ORIGIN_NEAR_POLE:
+        return "Lambert: the origin is near a pole but not at it (its authalic cosine is below 1e-12 in size)";
+    case LENTHUC_ORIGIN_SCALE:
+        return "Lambert: the origin's scale (d) is not a finite number above 0";
+    case LENTHUC_CONE_CONSTANT:
+        return "Albers: the parallels make no cone (its constant n is below 1e-12 in size)";
+    case LENTHUC_FORWARD_INPUT:
+        return "the longitude or latitude given is not a finite number";
+    case LENTHUC_FORWARD_BEYOND:
+        return "the latitude given is beyond 90 degrees (pi/2 + 1e-12)";
+    case LENTHUC_ANTIPODE:
+        return "Lambert: the point is opposite the origin (the denominator is 0 or below)";
+    case LENTHUC_FORWARD_RESULT:
+        return "the easting or northing worked out is not a finite number";
+    case LENTHUC_INVERSE_INPUT:
+        return "the easting or northing given is not a finite number";
+    case LENTHUC_STEP_AT_POLE:
+        return "polyconic: a step of the inverse meets a pole (the cosine is below 1e-12 in size)";
+    case LENTHUC_STEPS_USED_UP:
+        return "the steps of the inverse are used up before it settles (15 steps; polyconic 20)";
+    case LENTHUC_INVERSE_RESULT:
+        return "the longitude or latitude worked out is not a finite number";
+    case LENTHUC_INVERSE_BEYOND:
+        return "the latitude worked out is beyond 90 degrees (pi/2 + 1e-12)";
+    case LENTHUC_UNEQUAL_LENGTHS:
+        return "the columns have unequal lengths: nothing is read or written";
+    default:
+        return NULL;
+    }
+}
 
 /*
  * Whether there is an ellipsoid of semi-major axis a and flattening f = (a - b) / a: 0, 4 or 5. A sphere has f = 0.
@@ -127,35 +187,69 @@ uint8_t lenthuc_from_a_f(double a, double f);
 uint8_t lenthuc_from_a_rf(double a, double rf, double *f);
 
 /*
- * Whether a projection can be built: 0, or 2 to 15 but 3. lon0, lat0 are the origin, lat1, lat2 the parallels, fe, fn the
- * false easting and northing. Albers alone uses lat1 and lat2, and Equal Earth does not use lat0. The value of a setting
- * that a kind does not use never affects an answer.
- * Proved: the number is that of the projection's construction by the definition build.
+ * What a projection is built of. lon0, lat0 are the origin, lat1, lat2 the parallels, fe, fn the false easting and northing.
+ * Albers alone uses lat1 and lat2, and Equal Earth does not use lat0. The value of a setting that a kind does not use never
+ * affects an answer.
  */
-uint8_t lenthuc_new(uint8_t kind, double a, double f, double lon0, double lat0, double lat1, double lat2, double fe,
-                    double fn);
+struct lenthuc_settings {
+    double a, f, lon0, lat0, lat1, lat2, fe, fn;
+};
 
 /*
- * Projects one point, after building the projection. Returns 0, or 2 to 24 but 3, and puts the results into *p and *q.
- * The projection's constants are not kept from one call to the next, so a table of points is faster by lenthuc_column.
- * Proved: the number, *p and *q are those of the definition project, bit for bit.
+ * A built projection. Its numbers are for the functions below alone, and may change with the version. It may be copied, and
+ * moved to other memory. No function writes it but lenthuc_build.
  */
-uint8_t lenthuc_project(uint8_t way, uint8_t kind, double a, double f, double lon0, double lat0, double lat1, double lat2,
-                        double fe, double fn, double u, double v, double *LENTHUC_RESTRICT p,
-                        double *LENTHUC_RESTRICT q);
+struct lenthuc_projection {
+    double numbers[31];
+};
 
 /*
- * Projects a column of points by one projection, built once. u, v, p, q and numbers have us, vs, ps, qs and ns elements.
- * Where these are equal, returns 0, and puts the results of point i into p[i] and q[i] and its number into numbers[i]. A
- * refused point does not stop the others. A refused letter or setting is the number of every point, and 0 is still returned.
- * Columns of length 0 have no points: 0 is returned, and that is all. Where the lengths are not all equal, returns
+ * Builds a projection. Returns 0, or 2 to 15 but 3. A projection that was refused is filled too: it answers every point by the
+ * number of its refusal, so a caller may leave the test to the first point.
+ * Proved: the number is that of the projection's construction by the definition build, and what *projection then holds, by the
+ * definition unpacked, is that construction.
+ */
+uint8_t lenthuc_build(uint8_t kind, const struct lenthuc_settings *settings,
+                      struct lenthuc_projection *LENTHUC_RESTRICT projection);
+
+/*
+ * The easting and northing of a longitude and latitude. Returns 0, or 16 to 19, or the number of the projection's refusal.
+ * Proved: the number and the results are those of the definition forward, bit for bit, for the projection that the numbers
+ * hold by the definition unpacked. This is so of any numbers, whoever wrote them: those that hold no projection, as 31 zeros
+ * do, give 2.
+ */
+uint8_t lenthuc_forward(const struct lenthuc_projection *projection, double lon, double lat,
+                        double *LENTHUC_RESTRICT easting, double *LENTHUC_RESTRICT northing);
+
+/*
+ * The longitude and latitude of an easting and northing. Returns 0, or 20 to 24, or the number of the projection's refusal.
+ * Proved: as for lenthuc_forward, by the definition inverse. And whatever is answered lies on the map, of any numbers: the
+ * longitude is in [-pi, pi], normalising leaves it as it is, and it is within 2^-42 of the formula's own, up to whole turns;
+ * the latitude is in [-pi/2 - 1e-12, pi/2 + 1e-12].
+ */
+uint8_t lenthuc_inverse(const struct lenthuc_projection *projection, double easting, double northing,
+                        double *LENTHUC_RESTRICT lon, double *LENTHUC_RESTRICT lat);
+
+/*
+ * A column of points by one projection. The five columns have as many elements as the lengths after them say. Where these are
+ * equal, returns 0, and puts the results of point i into easting[i] and northing[i] and its number into numbers[i]. A refused
+ * point does not stop the others. A projection's refusal is the number of every point, and 0 is still returned. Columns of
+ * length 0 have no points: 0 is returned, and that is all. Where the lengths are not all equal, returns
  * LENTHUC_UNEQUAL_LENGTHS.
- * Proved: 0, and at each place what lenthuc_project gives for it; or 255, and p, q and numbers as they were.
+ * Proved: 0, and at each place what lenthuc_forward gives for it; or 255, and easting, northing and numbers as they were.
  */
-uint8_t lenthuc_column(uint8_t way, uint8_t kind, double a, double f, double lon0, double lat0, double lat1, double lat2,
-                       double fe, double fn, const double *u, size_t us, const double *v, size_t vs,
-                       double *LENTHUC_RESTRICT p, size_t ps, double *LENTHUC_RESTRICT q, size_t qs,
-                       uint8_t *LENTHUC_RESTRICT numbers, size_t ns);
+uint8_t lenthuc_forward_column(const struct lenthuc_projection *projection, const double *lon, size_t lons,
+                               const double *lat, size_t lats, double *LENTHUC_RESTRICT easting, size_t eastings,
+                               double *LENTHUC_RESTRICT northing, size_t northings,
+                               uint8_t *LENTHUC_RESTRICT numbers, size_t ns);
+
+/*
+ * The same back: at each place what lenthuc_inverse gives for it.
+ * Proved: as for lenthuc_forward_column; and each place that is answered lies on the map, as for lenthuc_inverse.
+ */
+uint8_t lenthuc_inverse_column(const struct lenthuc_projection *projection, const double *easting, size_t eastings,
+                               const double *northing, size_t northings, double *LENTHUC_RESTRICT lon, size_t lons,
+                               double *LENTHUC_RESTRICT lat, size_t lats, uint8_t *LENTHUC_RESTRICT numbers, size_t ns);
 
 /* The most bytes that a sheet may have; and room for the longest answer to a sheet. */
 #define LENTHUC_SHEET_LIMIT 65536
@@ -167,7 +261,7 @@ uint8_t lenthuc_column(uint8_t way, uint8_t kind, double a, double f, double lon
  * than LENTHUC_SHEET_ROOM bytes is left as it is, and LENTHUC_SHEET_ROOM is returned, which is then more than room. A sheet
  * over the limit is answered by a line that says so, so no more than one byte over it need be handed in.
  * Proved: the output is that of the definition sheet-text, and the length is its length; or room is too little, and the output
- * is as it was.
+ * is as it was. And whatever an inverse line answers lies on the map, as for lenthuc_inverse.
  */
 size_t lenthuc_answer_sheet(const uint8_t *input, size_t in, uint8_t *LENTHUC_RESTRICT output, size_t room);
 

@@ -1,11 +1,16 @@
 //! Finds the proved archive that `src/raw.rs` links: in the folder that LENTHUC_ARCHIVE names, or
-//! where `rt staticlib capi` writes it, target/staticlib at the repository's top.
+//! where `rt staticlib capi` writes it, target/staticlib at the repository's top. A build script of
+//! a crate that depends on this one is told the folder by the variable DEP_CAPI_FOLDER.
 
 use std::env;
+use std::fs;
 use std::path::{Path, PathBuf};
 
 const FOLDER: &str = "LENTHUC_ARCHIVE";
 const ARCHIVE: &str = "libcapi.a";
+
+/// A function that archives of versions before 0.2.0 lack.
+const BUILD: &[u8] = b"lenthuc_build";
 
 fn main() {
     println!("cargo::rerun-if-changed=build.rs");
@@ -14,6 +19,7 @@ fn main() {
         Ok(folder) => {
             println!("cargo::rustc-link-search=native={folder}");
             println!("cargo::rerun-if-changed={folder}/{ARCHIVE}");
+            println!("cargo::metadata=folder={folder}");
         }
         Err(message) => println!("cargo::error={message}"),
     }
@@ -43,10 +49,18 @@ fn folder() -> Result<String, String> {
             "{FOLDER} names the folder '{shown}': an absolute path is needed"
         ));
     }
-    if !folder.join(ARCHIVE).is_file() {
+    let Ok(archive) = fs::read(folder.join(ARCHIVE)) else {
         return Err(format!(
             "the proved archive {ARCHIVE} is not in {shown}: run `rt staticlib capi` at the top of \
              Lenthuc's repository, or set {FOLDER} to the folder that has it"
+        ));
+    };
+    // Of this too a linker says only that a symbol is not there.
+    if !archive.windows(BUILD.len()).any(|part| part == BUILD) {
+        return Err(format!(
+            "the archive {ARCHIVE} in {shown} is older than this crate, {}: run `rt staticlib capi` \
+             again at the top of Lenthuc's repository",
+            env!("CARGO_PKG_VERSION")
         ));
     }
     match folder.to_str() {

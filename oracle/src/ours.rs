@@ -100,33 +100,24 @@ unsafe extern "C" {
 
 #[link(name = "capi", kind = "static")]
 unsafe extern "C" {
-    safe fn lenthuc_project(
-        way: u8,
-        kind: u8,
-        a: f64,
-        f: f64,
-        lon0: f64,
-        lat0: f64,
-        lat1: f64,
-        lat2: f64,
-        false_easting: f64,
-        false_northing: f64,
-        u: f64,
-        v: f64,
-        p: &mut f64,
-        q: &mut f64,
+    safe fn lenthuc_build(kind: u8, settings: &[f64; 8], projection: &mut [f64; 31]) -> u8;
+    safe fn lenthuc_forward(p: &[f64; 31], u: f64, v: f64, x: &mut f64, y: &mut f64) -> u8;
+    safe fn lenthuc_inverse(p: &[f64; 31], u: f64, v: f64, x: &mut f64, y: &mut f64) -> u8;
+    fn lenthuc_forward_column(
+        projection: &[f64; 31],
+        u: *const f64,
+        us: usize,
+        v: *const f64,
+        vs: usize,
+        p: *mut f64,
+        ps: usize,
+        q: *mut f64,
+        qs: usize,
+        numbers: *mut u8,
+        ns: usize,
     ) -> u8;
-    fn lenthuc_column(
-        way: u8,
-        kind: u8,
-        a: f64,
-        f: f64,
-        lon0: f64,
-        lat0: f64,
-        lat1: f64,
-        lat2: f64,
-        false_easting: f64,
-        false_northing: f64,
+    fn lenthuc_inverse_column(
+        projection: &[f64; 31],
         u: *const f64,
         us: usize,
         v: *const f64,
@@ -140,32 +131,69 @@ unsafe extern "C" {
     ) -> u8;
 }
 
+/// The projection of a line, and the number of its building.
+fn built(line: &Line) -> ([f64; 31], u8) {
+    let [a, f, lon0, lat0, lat1, lat2, fe, fn_, ..] = line.fields;
+    let mut projection = [f64::NAN; 31];
+    let settings = [a, f, lon0, lat0, lat1, lat2, fe, fn_];
+    let number = lenthuc_build(line.kind, &settings, &mut projection);
+    (projection, number)
+}
+
+/// One point by a projection.
+fn point(way: u8, projection: &[f64; 31], u: f64, v: f64, p: &mut f64, q: &mut f64) -> u8 {
+    match way {
+        b'F' => lenthuc_forward(projection, u, v, p, q),
+        b'I' => lenthuc_inverse(projection, u, v, p, q),
+        way => panic!("the way {way} is none"),
+    }
+}
+
 /// The answer to a line.
 pub fn answer(line: &Line) -> Answer {
-    let [a, f, lon0, lat0, lat1, lat2, fe, fn_, u, v] = line.fields;
-    let (way, kind) = (line.way, line.kind);
+    let [.., u, v] = line.fields;
+    let (projection, refused) = built(line);
     let (mut p, mut q) = (f64::NAN, f64::NAN);
-    let number = lenthuc_project(
-        way, kind, a, f, lon0, lat0, lat1, lat2, fe, fn_, u, v, &mut p, &mut q,
+    let number = point(line.way, &projection, u, v, &mut p, &mut q);
+    assert!(
+        refused == 0 || refused == number,
+        "a refused projection gives its own number"
     );
     let (p, q) = (p.to_bits(), q.to_bits());
     Answer { number, p, q }
 }
 
+/// A column's points by one call each, the projection built once.
+pub fn one_by_one(line: &Line, u: &[f64], v: &[f64], filled: &mut Columns) {
+    let (projection, _) = built(line);
+    let Columns { p, q, numbers } = filled;
+    for i in 0..u.len() {
+        numbers[i] = point(line.way, &projection, u[i], v[i], &mut p[i], &mut q[i]);
+    }
+}
+
+/// The same, the projection built anew for each.
+pub fn built_anew(line: &Line, u: &[f64], v: &[f64], filled: &mut Columns) {
+    let Columns { p, q, numbers } = filled;
+    for i in 0..u.len() {
+        let (projection, _) = built(line);
+        numbers[i] = point(line.way, &projection, u[i], v[i], &mut p[i], &mut q[i]);
+    }
+}
+
 /// A column of points by one projection.
 pub fn column(line: &Line, u: &[f64], v: &[f64], filled: &mut Columns) {
-    let [a, f, lon0, lat0, lat1, lat2, fe, fn_, ..] = line.fields;
-    let (way, kind) = (line.way, line.kind);
+    let (projection, _) = built(line);
     let Columns { p, q, numbers } = filled;
     let (us, vs, ps, qs, ns) = (u.len(), v.len(), p.len(), q.len(), numbers.len());
     let (u, v, numbers) = (u.as_ptr(), v.as_ptr(), numbers.as_mut_ptr());
     let (p, q) = (p.as_mut_ptr(), q.as_mut_ptr());
-    // SAFETY: it reads two slices and writes three others, each with its length.
-    let said = unsafe {
-        lenthuc_column(
-            way, kind, a, f, lon0, lat0, lat1, lat2, fe, fn_, u, us, v, vs, p, ps, q, qs, numbers,
-            ns,
-        )
+    let column = match line.way {
+        b'F' => lenthuc_forward_column,
+        b'I' => lenthuc_inverse_column,
+        way => panic!("the way {way} is none"),
     };
+    // SAFETY: it reads two slices and writes three others, each with its length.
+    let said = unsafe { column(&projection, u, us, v, vs, p, ps, q, qs, numbers, ns) };
     assert_eq!(said, 0, "the columns have one length");
 }

@@ -1,15 +1,19 @@
 //! Reference ellipsoids.
 
 use crate::raw;
-use crate::refusal::{Refusal, answered};
+use crate::refusal::Refusal;
 
 /// A reference ellipsoid.
 ///
+/// The archive checks what it is made of. The inverse flattening, the semi-minor axis and the
+/// eccentricity are worked out here, by the operations of the Rust that Lenthuc is a port of.
+///
 /// ```
-/// use lenthuc::{Ellipsoid, Refusal};
+/// use lenthuc::{Ellipsoid, Refusal, WGS84};
 ///
 /// let clarke = Ellipsoid::from_a_rf(31706587.88, 294.2606764)?;
 /// assert_eq!(clarke.semi_major_axis(), 31706587.88);
+/// assert_eq!(format!("{:.4} {:.8}", WGS84.b(), WGS84.e2()), "6356752.3142 0.00669438");
 /// assert_eq!(Ellipsoid::sphere(-1.0), Err(Refusal::SemiMajorAxis));
 /// # Ok::<(), Refusal>(())
 /// ```
@@ -24,38 +28,66 @@ impl Ellipsoid {
     ///
     /// # Errors
     ///
-    /// [`Refusal::InverseFlattening`], then [`Refusal::SemiMajorAxis`].
+    /// In this order:
+    ///
+    /// - 3, [`Refusal::InverseFlattening`]
+    /// - 4, [`Refusal::SemiMajorAxis`]
     pub fn from_a_rf(a: f64, rf: f64) -> Result<Self, Refusal> {
-        let (number, f) = raw::from_a_rf(a, rf);
-        answered(number).map(|()| Self { a, f })
+        let (outcome, f) = raw::from_a_rf(a, rf);
+        outcome.result().map(|()| Self { a, f })
     }
 
     /// From the semi-major axis and the flattening, (a - b) / a.
     ///
     /// # Errors
     ///
-    /// [`Refusal::SemiMajorAxis`], then [`Refusal::Flattening`].
+    /// In this order:
+    ///
+    /// - 4, [`Refusal::SemiMajorAxis`]
+    /// - 5, [`Refusal::Flattening`]
     pub fn from_a_f(a: f64, f: f64) -> Result<Self, Refusal> {
-        answered(raw::from_a_f(a, f)).map(|()| Self { a, f })
+        raw::from_a_f(a, f).result().map(|()| Self { a, f })
     }
 
     /// A sphere, which is an ellipsoid of flattening 0.
     ///
     /// # Errors
     ///
-    /// [`Refusal::SemiMajorAxis`].
+    /// - 4, [`Refusal::SemiMajorAxis`]
     pub fn sphere(radius: f64) -> Result<Self, Refusal> {
         Self::from_a_f(radius, 0.0)
     }
 
-    /// The semi-major axis. Eastings and northings have its unit.
+    /// The semi-major axis, a. Eastings and northings have its unit.
+    #[must_use]
     pub const fn semi_major_axis(&self) -> f64 {
         self.a
     }
 
-    /// The flattening.
+    /// The flattening, f.
+    #[must_use]
     pub const fn flattening(&self) -> f64 {
         self.f
+    }
+
+    /// The inverse flattening, 1 / f, and 0 of a sphere. An f of 2^-1024 or less has an infinite
+    /// one. It may differ in its last digit from what [`from_a_rf`](Ellipsoid::from_a_rf) was given,
+    /// since both that and this are rounded.
+    #[must_use]
+    pub const fn inverse_flattening(&self) -> f64 {
+        if self.f == 0.0 { 0.0 } else { 1.0 / self.f }
+    }
+
+    /// The semi-minor axis, a (1 - f).
+    #[must_use]
+    pub const fn b(&self) -> f64 {
+        self.a * (1.0 - self.f)
+    }
+
+    /// The square of the first eccentricity, 2f - f².
+    #[must_use]
+    pub const fn e2(&self) -> f64 {
+        2.0 * self.f - self.f * self.f
     }
 }
 

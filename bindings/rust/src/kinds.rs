@@ -1,21 +1,118 @@
 //! The types of projections.
 
+use crate::built::Built;
 use crate::ellipsoid::Ellipsoid;
-use crate::projection::Projection;
-use crate::refusal::Refusal;
-use crate::settings::{Built, Kind, Settings};
+use crate::outcome::Outcome;
+use crate::projection::{Projection, Sealed};
+use crate::raw::Way;
+use crate::refusal::{Answer, Refusal, UnequalLengths};
+use crate::settings::{Kind, Settings};
+use std::fmt;
+
+/// What a type has besides its constructors: what it was built of, with the latitudes that are
+/// named, and `Debug` and `Projection`.
+macro_rules! projection {
+    ($name:ident: $($latitude:ident)*) => {
+        impl $name {
+            /// The ellipsoid.
+            #[must_use]
+            pub const fn ellipsoid(&self) -> Ellipsoid {
+                self.0.settings().ellipsoid
+            }
+
+            /// The longitude `lon0`, in radians, as it was given.
+            #[must_use]
+            pub const fn lon0(&self) -> f64 {
+                self.0.settings().lon0
+            }
+
+            $(
+                #[doc = concat!("The latitude `", stringify!($latitude), "`, in radians, as it was given.")]
+                #[must_use]
+                pub const fn $latitude(&self) -> f64 {
+                    self.0.settings().$latitude
+                }
+            )*
+
+            /// The false easting.
+            #[must_use]
+            pub const fn false_easting(&self) -> f64 {
+                self.0.settings().false_easting
+            }
+
+            /// The false northing.
+            #[must_use]
+            pub const fn false_northing(&self) -> f64 {
+                self.0.settings().false_northing
+            }
+        }
+
+        /// What it was built of, by name.
+        impl fmt::Debug for $name {
+            fn fmt(&self, f: &mut fmt::Formatter<'_>) -> fmt::Result {
+                self.0.fmt(f)
+            }
+        }
+
+        impl Sealed for $name {}
+
+        impl Projection for $name {
+            fn forward(&self, lon: f64, lat: f64) -> Answer {
+                self.0.point(Way::Forward, lon, lat)
+            }
+
+            fn inverse(&self, easting: f64, northing: f64) -> Answer {
+                self.0.point(Way::Inverse, easting, northing)
+            }
+
+            fn forward_column(
+                &self,
+                lon: &[f64],
+                lat: &[f64],
+                easting: &mut [f64],
+                northing: &mut [f64],
+                outcomes: &mut [Outcome],
+            ) -> Result<(), UnequalLengths> {
+                self.0.column(Way::Forward, [lon, lat], [easting, northing], outcomes)
+            }
+
+            fn inverse_column(
+                &self,
+                easting: &[f64],
+                northing: &[f64],
+                lon: &mut [f64],
+                lat: &mut [f64],
+                outcomes: &mut [Outcome],
+            ) -> Result<(), UnequalLengths> {
+                self.0.column(Way::Inverse, [easting, northing], [lon, lat], outcomes)
+            }
+        }
+    };
+}
 
 /// Lambert azimuthal equal-area (EPSG method 9820), or its spherical form (1027), about a pole or any
 /// other origin.
-#[derive(Clone, Copy, Debug, PartialEq)]
-pub struct LambertAzimuthalEqualArea(Settings);
+///
+/// A point is refused by number 16, 17, 18 or 19 [forward](Projection::forward), and by 20, 23 or 24
+/// [back](Projection::inverse).
+#[derive(Clone, Copy, PartialEq)]
+pub struct LambertAzimuthalEqualArea(Built);
 
 impl LambertAzimuthalEqualArea {
     /// About the origin `lon0`, `lat0`, which has the false easting and northing.
     ///
     /// # Errors
     ///
-    /// A [`Refusal`] of number 6 to 10 or 12 to 14.
+    /// In this order:
+    ///
+    /// - 6, [`Refusal::Lon0`]
+    /// - 7, [`Refusal::LatitudeSetting`]
+    /// - 8, [`Refusal::LatitudeSettingBeyond`]
+    /// - 9, [`Refusal::FalseEasting`]
+    /// - 10, [`Refusal::FalseNorthing`]
+    /// - 12, [`Refusal::PolarQ`]
+    /// - 13, [`Refusal::OriginNearPole`]
+    /// - 14, [`Refusal::OriginScale`]
     pub fn new(
         ellipsoid: Ellipsoid,
         lon0: f64,
@@ -25,14 +122,15 @@ impl LambertAzimuthalEqualArea {
     ) -> Result<Self, Refusal> {
         let offsets = [false_easting, false_northing];
         let settings = Settings::new(Kind::Lambert, ellipsoid, [lon0, lat0], offsets);
-        settings.built().map(Self)
+        Built::new(settings).map(Self)
     }
 
     /// The same by the sphere's formulas, on the sphere that has the ellipsoid's area.
     ///
     /// # Errors
     ///
-    /// A [`Refusal`] of number 6 to 10 or 12 to 14.
+    /// Those of [`new`](LambertAzimuthalEqualArea::new), 12 to 14 too: they are of the ellipsoid's
+    /// numbers.
     pub fn new_spherical(
         ellipsoid: Ellipsoid,
         lon0: f64,
@@ -42,26 +140,31 @@ impl LambertAzimuthalEqualArea {
     ) -> Result<Self, Refusal> {
         let offsets = [false_easting, false_northing];
         let settings = Settings::new(Kind::LambertSpherical, ellipsoid, [lon0, lat0], offsets);
-        settings.built().map(Self)
+        Built::new(settings).map(Self)
+    }
+
+    /// Whether it is the spherical form. A Lambert on a sphere that [`new`] built is not.
+    ///
+    /// [`new`]: LambertAzimuthalEqualArea::new
+    #[must_use]
+    pub const fn is_spherical(&self) -> bool {
+        matches!(self.0.settings().kind, Kind::LambertSpherical)
     }
 }
 
-impl Built for LambertAzimuthalEqualArea {
-    fn settings(&self) -> &Settings {
-        &self.0
-    }
-}
-
-impl Projection for LambertAzimuthalEqualArea {}
+projection!(LambertAzimuthalEqualArea: lat0);
 
 /// Albers equal-area conic (EPSG method 9822).
+///
+/// A point is refused by number 16, 17 or 19 [forward](Projection::forward), and by 20, 22, 23 or 24
+/// [back](Projection::inverse).
 ///
 /// ```
 /// use lenthuc::{AlbersEqualArea, CLARKE1866, Projection, Refusal};
 ///
 /// let [lon0, lat0, lat1, lat2] = [-96.0, 23.0, 29.5, 45.5].map(f64::to_radians);
 /// let states = AlbersEqualArea::new(CLARKE1866, lon0, lat0, lat1, lat2, 0.0, 0.0)?;
-/// let (x, y) = states.forward((-75.0_f64).to_radians(), 35.0_f64.to_radians())?;
+/// let (x, y) = states.forward_degrees(-75.0, 35.0)?;
 /// // Snyder prints 1885472.7 and 1535925.0.
 /// assert!((x - 1885472.7).abs() < 0.05 && (y - 1535925.0).abs() < 0.05);
 ///
@@ -69,8 +172,8 @@ impl Projection for LambertAzimuthalEqualArea {}
 /// assert_eq!(no_cone, Err(Refusal::ConeConstant));
 /// # Ok::<(), Refusal>(())
 /// ```
-#[derive(Clone, Copy, Debug, PartialEq)]
-pub struct AlbersEqualArea(Settings);
+#[derive(Clone, Copy, PartialEq)]
+pub struct AlbersEqualArea(Built);
 
 impl AlbersEqualArea {
     /// About the origin `lon0`, `lat0`, which has the false easting and northing,
@@ -78,7 +181,14 @@ impl AlbersEqualArea {
     ///
     /// # Errors
     ///
-    /// A [`Refusal`] of number 6 to 10 or 15.
+    /// In this order:
+    ///
+    /// - 6, [`Refusal::Lon0`]
+    /// - 7, [`Refusal::LatitudeSetting`], then 8, [`Refusal::LatitudeSettingBeyond`], of `lat0`; then
+    ///   both of `lat1`; then both of `lat2`
+    /// - 9, [`Refusal::FalseEasting`]
+    /// - 10, [`Refusal::FalseNorthing`]
+    /// - 15, [`Refusal::ConeConstant`]
     pub fn new(
         ellipsoid: Ellipsoid,
         lon0: f64,
@@ -94,28 +204,29 @@ impl AlbersEqualArea {
             lat2,
             ..Settings::new(Kind::Albers, ellipsoid, [lon0, lat0], offsets)
         };
-        settings.built().map(Self)
+        Built::new(settings).map(Self)
     }
 }
 
-impl Built for AlbersEqualArea {
-    fn settings(&self) -> &Settings {
-        &self.0
-    }
-}
-
-impl Projection for AlbersEqualArea {}
+projection!(AlbersEqualArea: lat0 lat1 lat2);
 
 /// Equal Earth (EPSG method 1078).
-#[derive(Clone, Copy, Debug, PartialEq)]
-pub struct EqualEarth(Settings);
+///
+/// A point is refused by number 16, 17 or 19 [forward](Projection::forward), and by 20, 22, 23 or 24
+/// [back](Projection::inverse).
+#[derive(Clone, Copy, PartialEq)]
+pub struct EqualEarth(Built);
 
 impl EqualEarth {
     /// About the meridian `lon0`, whose point on the equator has the false easting and northing.
     ///
     /// # Errors
     ///
-    /// A [`Refusal`] of number 6, 9 or 10.
+    /// In this order:
+    ///
+    /// - 6, [`Refusal::Lon0`]
+    /// - 9, [`Refusal::FalseEasting`]
+    /// - 10, [`Refusal::FalseNorthing`]
     pub fn new(
         ellipsoid: Ellipsoid,
         lon0: f64,
@@ -124,28 +235,31 @@ impl EqualEarth {
     ) -> Result<Self, Refusal> {
         let offsets = [false_easting, false_northing];
         let settings = Settings::new(Kind::EqualEarth, ellipsoid, [lon0, 0.0], offsets);
-        settings.built().map(Self)
+        Built::new(settings).map(Self)
     }
 }
 
-impl Built for EqualEarth {
-    fn settings(&self) -> &Settings {
-        &self.0
-    }
-}
-
-impl Projection for EqualEarth {}
+projection!(EqualEarth:);
 
 /// Cassini-Soldner (EPSG method 9806).
-#[derive(Clone, Copy, Debug, PartialEq)]
-pub struct CassiniSoldner(Settings);
+///
+/// A point is refused by number 16, 17 or 19 [forward](Projection::forward), and by 20, 23 or 24
+/// [back](Projection::inverse).
+#[derive(Clone, Copy, PartialEq)]
+pub struct CassiniSoldner(Built);
 
 impl CassiniSoldner {
     /// About the origin `lon0`, `lat0`, which has the false easting and northing.
     ///
     /// # Errors
     ///
-    /// A [`Refusal`] of number 6 to 10.
+    /// In this order:
+    ///
+    /// - 6, [`Refusal::Lon0`]
+    /// - 7, [`Refusal::LatitudeSetting`]
+    /// - 8, [`Refusal::LatitudeSettingBeyond`]
+    /// - 9, [`Refusal::FalseEasting`]
+    /// - 10, [`Refusal::FalseNorthing`]
     pub fn new(
         ellipsoid: Ellipsoid,
         lon0: f64,
@@ -155,28 +269,31 @@ impl CassiniSoldner {
     ) -> Result<Self, Refusal> {
         let offsets = [false_easting, false_northing];
         let settings = Settings::new(Kind::Cassini, ellipsoid, [lon0, lat0], offsets);
-        settings.built().map(Self)
+        Built::new(settings).map(Self)
     }
 }
 
-impl Built for CassiniSoldner {
-    fn settings(&self) -> &Settings {
-        &self.0
-    }
-}
-
-impl Projection for CassiniSoldner {}
+projection!(CassiniSoldner: lat0);
 
 /// American polyconic (EPSG method 9818).
-#[derive(Clone, Copy, Debug, PartialEq)]
-pub struct AmericanPolyconic(Settings);
+///
+/// A point is refused by number 16, 17 or 19 [forward](Projection::forward), and by 20, 21, 22, 23 or
+/// 24 [back](Projection::inverse).
+#[derive(Clone, Copy, PartialEq)]
+pub struct AmericanPolyconic(Built);
 
 impl AmericanPolyconic {
     /// About the origin `lon0`, `lat0`, which has the false easting and northing.
     ///
     /// # Errors
     ///
-    /// A [`Refusal`] of number 6 to 10.
+    /// In this order:
+    ///
+    /// - 6, [`Refusal::Lon0`]
+    /// - 7, [`Refusal::LatitudeSetting`]
+    /// - 8, [`Refusal::LatitudeSettingBeyond`]
+    /// - 9, [`Refusal::FalseEasting`]
+    /// - 10, [`Refusal::FalseNorthing`]
     pub fn new(
         ellipsoid: Ellipsoid,
         lon0: f64,
@@ -186,21 +303,18 @@ impl AmericanPolyconic {
     ) -> Result<Self, Refusal> {
         let offsets = [false_easting, false_northing];
         let settings = Settings::new(Kind::Polyconic, ellipsoid, [lon0, lat0], offsets);
-        settings.built().map(Self)
+        Built::new(settings).map(Self)
     }
 }
 
-impl Built for AmericanPolyconic {
-    fn settings(&self) -> &Settings {
-        &self.0
-    }
-}
-
-impl Projection for AmericanPolyconic {}
+projection!(AmericanPolyconic: lat0);
 
 /// Guam projection (EPSG method 9831), for an island.
-#[derive(Clone, Copy, Debug, PartialEq)]
-pub struct GuamProjection(Settings);
+///
+/// A point is refused by number 16, 17 or 19 [forward](Projection::forward), and by 20, 23 or 24
+/// [back](Projection::inverse).
+#[derive(Clone, Copy, PartialEq)]
+pub struct GuamProjection(Built);
 
 impl GuamProjection {
     /// About the origin `lon0`, `lat0`, which has the false easting and northing.
@@ -208,7 +322,14 @@ impl GuamProjection {
     ///
     /// # Errors
     ///
-    /// A [`Refusal`] of number 6 to 11.
+    /// In this order:
+    ///
+    /// - 6, [`Refusal::Lon0`]
+    /// - 7, [`Refusal::LatitudeSetting`]
+    /// - 8, [`Refusal::LatitudeSettingBeyond`]
+    /// - 9, [`Refusal::FalseEasting`]
+    /// - 10, [`Refusal::FalseNorthing`]
+    /// - 11, [`Refusal::Sphere`]
     pub fn new(
         ellipsoid: Ellipsoid,
         lon0: f64,
@@ -218,14 +339,8 @@ impl GuamProjection {
     ) -> Result<Self, Refusal> {
         let offsets = [false_easting, false_northing];
         let settings = Settings::new(Kind::Guam, ellipsoid, [lon0, lat0], offsets);
-        settings.built().map(Self)
+        Built::new(settings).map(Self)
     }
 }
 
-impl Built for GuamProjection {
-    fn settings(&self) -> &Settings {
-        &self.0
-    }
-}
-
-impl Projection for GuamProjection {}
+projection!(GuamProjection: lat0);

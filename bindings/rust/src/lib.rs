@@ -14,32 +14,33 @@
 //! let lat0 = (10.0 + 26.0 / 60.0 + 30.0 / 3600.0_f64).to_radians();
 //! let trinidad = CassiniSoldner::new(clarke, lon0, lat0, 430000.0, 325000.0)?;
 //!
-//! let (easting, northing) = trinidad.forward((-62.0_f64).to_radians(), 10.0_f64.to_radians())?;
+//! let (easting, northing) = trinidad.forward_degrees(-62.0, 10.0)?;
 //! assert_eq!(format!("{easting:.2} {northing:.2}"), "66644.94 82536.22");
 //!
-//! let (lon, lat) = trinidad.inverse(66644.94, 82536.22)?;
-//! assert_eq!(format!("{:.6} {:.6}", lon.to_degrees(), lat.to_degrees()), "-62.000000 10.000000");
+//! let (lon, lat) = trinidad.inverse_degrees(66644.94, 82536.22)?;
+//! assert_eq!(format!("{lon:.6} {lat:.6}"), "-62.000000 10.000000");
 //!
 //! // What cannot be answered is refused.
 //! assert_eq!(trinidad.forward(0.0, 2.0), Err(Refusal::ForwardBeyond));
 //! # Ok::<(), Refusal>(())
 //! ```
 //!
-//! Angles are radians. Eastings and northings have the unit of the ellipsoid's semi-major axis.
+//! Angles are radians but in the functions named for degrees. Eastings and northings have the unit
+//! of the ellipsoid's semi-major axis.
 //!
 //! # One point, or many
 //!
-//! A single call builds the projection anew each time: a type here holds the settings, and its
-//! constants are not kept across the boundary to the archive. So a table of points goes through
-//! [`Projection::forward_column`] or [`Projection::inverse_column`], which build once and allocate
-//! nothing, or through [`Projection::forward_points`] or [`Projection::inverse_points`], which are
-//! the same with vectors. All give the same answers, bit for bit.
+//! A projection is built once, by its constructor, and holds what the archive made of its settings.
+//! A single call costs about what a place of a column costs. [`Projection::forward_column`] and
+//! [`Projection::inverse_column`] take whole columns and allocate nothing;
+//! [`Projection::forward_points`] and [`Projection::inverse_points`] take pairs and give a vector.
+//! All give the same answers, bit for bit.
 //!
 //! # What to rely on
 //!
 //! - Any `f64` may be handed to any function, whatever its bits. Every call ends.
 //! - An answer's coordinates are finite.
-//! - Nothing is kept between calls, so threads can share a projection.
+//! - No call changes a projection, so threads can share one.
 //! - The thread's floating-point environment must be the default one, as Rust demands of all code. A
 //!   C library that was linked with `-ffast-math` may change it.
 //!
@@ -47,13 +48,18 @@
 //!
 //! The archive is `libcapi.a`, which `rt staticlib capi` proves and writes into `target/staticlib`
 //! at the top of Lenthuc's repository. The build looks there, or in the folder that the environment
-//! variable `LENTHUC_ARCHIVE` names by an absolute path. The archive is for x86-64 Linux.
+//! variable `LENTHUC_ARCHIVE` names by an absolute path. The archive is for x86-64 Linux. It must
+//! have the crate's version: an older one is refused by the build, and building a projection panics
+//! where the versions differ otherwise.
 
-#![deny(missing_docs, unsafe_op_in_unsafe_fn)]
+#![deny(missing_docs, unsafe_code, unsafe_op_in_unsafe_fn)]
 
+mod built;
 mod ellipsoid;
 mod kinds;
+mod outcome;
 mod projection;
+#[allow(unsafe_code)]
 mod raw;
 mod refusal;
 mod settings;
@@ -63,6 +69,29 @@ mod settings;
 #[doc = include_str!("../README.md")]
 mod readme {}
 
+/// The seal has no method, so none can be called through a bound:
+///
+/// ```compile_fail,E0599
+/// fn settings<P: lenthuc::Projection>(map: &P) {
+///     let _ = map.settings();
+/// }
+/// ```
+///
+/// nor on a type:
+///
+/// ```compile_fail,E0599
+/// let world = lenthuc::EqualEarth::new(lenthuc::WGS84, 0.0, 0.0, 0.0).unwrap();
+/// let _ = world.settings();
+/// ```
+///
+/// and no path leads to it:
+///
+/// ```compile_fail,E0603
+/// use lenthuc::projection::Sealed;
+/// ```
+#[cfg(doctest)]
+mod seal {}
+
 pub use ellipsoid::{
     AIRY1830, BESSEL1841, CLARKE1866, Ellipsoid, GRS80, INTL1924, KRASSOWSKY, UNIT_SPHERE, WGS84,
     WGS84_SPHERE,
@@ -71,5 +100,6 @@ pub use kinds::{
     AlbersEqualArea, AmericanPolyconic, CassiniSoldner, EqualEarth, GuamProjection,
     LambertAzimuthalEqualArea,
 };
+pub use outcome::Outcome;
 pub use projection::Projection;
 pub use refusal::{Answer, Refusal, UnequalLengths};

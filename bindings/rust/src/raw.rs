@@ -1,141 +1,145 @@
-//! Five of the archive's functions, as `bindings/c/lenthuc.h` documents them. All unsafe code is here.
+//! The archive's functions but the sheet's, as `bindings/c/lenthuc.h` documents them. All unsafe
+//! code is here.
 
-use crate::settings::{Settings, Way};
+use crate::outcome::Outcome;
+
+/// What a projection is built of: a, f, lon0, lat0, lat1, lat2, false easting, false northing.
+pub(crate) type Ordered = [f64; 8];
+
+/// A built projection.
+pub(crate) type Numbers = [f64; 31];
+
+/// The version of the archive that this crate is for, which is the crate's own.
+const VERSION: u32 = 10_000 * part(env!("CARGO_PKG_VERSION_MAJOR"))
+    + 100 * part(env!("CARGO_PKG_VERSION_MINOR"))
+    + part(env!("CARGO_PKG_VERSION_PATCH"));
+
+const fn part(digits: &str) -> u32 {
+    match u32::from_str_radix(digits, 10) {
+        Ok(part) if part < 100 => part,
+        _ => panic!("a part of the version is not below 100"),
+    }
+}
 
 // The archive calls fmod and no other function. Rust's own runtime may have one before libm; a
 // remainder is exact, so both give the same.
 #[link(name = "capi", kind = "static")]
 #[link(name = "m")]
-// SAFETY: the signatures are those of crates/capi. There a slice is its pointer and its length, and
-// a `&mut f64` is a valid, aligned pointer that nothing else uses, as here. The safe functions
-// touch no other memory: they are proved safe for every argument of these types.
+// SAFETY: the signatures are those of lenthuc.h. A reference is a valid, aligned pointer to as many
+// numbers as its type says, and what a `&mut` points to nothing else uses, as the header asks. An
+// `Outcome` is a u8. The safe functions touch no other memory: they are proved safe for every
+// argument of these types.
 unsafe extern "C" {
-    safe fn lenthuc_from_a_f(a: f64, f: f64) -> u8;
-    safe fn lenthuc_from_a_rf(a: f64, rf: f64, f: &mut f64) -> u8;
-    safe fn lenthuc_new(
-        kind: u8,
-        a: f64,
-        f: f64,
-        lon0: f64,
-        lat0: f64,
-        lat1: f64,
-        lat2: f64,
-        false_easting: f64,
-        false_northing: f64,
+    safe fn lenthuc_version() -> u32;
+    safe fn lenthuc_from_a_f(a: f64, f: f64) -> Outcome;
+    safe fn lenthuc_from_a_rf(a: f64, rf: f64, f: &mut f64) -> Outcome;
+    safe fn lenthuc_build(kind: u8, settings: &Ordered, projection: &mut Numbers) -> Outcome;
+    safe fn lenthuc_forward(
+        projection: &Numbers,
+        lon: f64,
+        lat: f64,
+        easting: &mut f64,
+        northing: &mut f64,
+    ) -> Outcome;
+    safe fn lenthuc_inverse(
+        projection: &Numbers,
+        easting: f64,
+        northing: f64,
+        lon: &mut f64,
+        lat: &mut f64,
+    ) -> Outcome;
+    fn lenthuc_forward_column(
+        projection: &Numbers,
+        lon: *const f64,
+        lons: usize,
+        lat: *const f64,
+        lats: usize,
+        easting: *mut f64,
+        eastings: usize,
+        northing: *mut f64,
+        northings: usize,
+        numbers: *mut Outcome,
+        ns: usize,
     ) -> u8;
-    safe fn lenthuc_project(
-        way: u8,
-        kind: u8,
-        a: f64,
-        f: f64,
-        lon0: f64,
-        lat0: f64,
-        lat1: f64,
-        lat2: f64,
-        false_easting: f64,
-        false_northing: f64,
-        u: f64,
-        v: f64,
-        p: &mut f64,
-        q: &mut f64,
-    ) -> u8;
-    fn lenthuc_column(
-        way: u8,
-        kind: u8,
-        a: f64,
-        f: f64,
-        lon0: f64,
-        lat0: f64,
-        lat1: f64,
-        lat2: f64,
-        false_easting: f64,
-        false_northing: f64,
-        u: *const f64,
-        us: usize,
-        v: *const f64,
-        vs: usize,
-        p: *mut f64,
-        ps: usize,
-        q: *mut f64,
-        qs: usize,
-        numbers: *mut u8,
+    fn lenthuc_inverse_column(
+        projection: &Numbers,
+        easting: *const f64,
+        eastings: usize,
+        northing: *const f64,
+        northings: usize,
+        lon: *mut f64,
+        lons: usize,
+        lat: *mut f64,
+        lats: usize,
+        numbers: *mut Outcome,
         ns: usize,
     ) -> u8;
 }
 
-/// The number of an ellipsoid by its flattening.
-pub(crate) fn from_a_f(a: f64, f: f64) -> u8 {
+/// Forward from a longitude and latitude, or back from an easting and northing.
+#[derive(Clone, Copy)]
+pub(crate) enum Way {
+    Forward,
+    Inverse,
+}
+
+/// Of an ellipsoid by its flattening.
+pub(crate) fn from_a_f(a: f64, f: f64) -> Outcome {
     lenthuc_from_a_f(a, f)
 }
 
-/// The number of an ellipsoid by its inverse flattening, and its flattening.
-pub(crate) fn from_a_rf(a: f64, rf: f64) -> (u8, f64) {
+/// Of an ellipsoid by its inverse flattening, and its flattening.
+pub(crate) fn from_a_rf(a: f64, rf: f64) -> (Outcome, f64) {
     let mut f = 0.0;
-    let number = lenthuc_from_a_rf(a, rf, &mut f);
-    (number, f)
+    let outcome = lenthuc_from_a_rf(a, rf, &mut f);
+    (outcome, f)
 }
 
-/// The number of a projection's construction.
-pub(crate) fn new(s: &Settings) -> u8 {
-    lenthuc_new(
-        s.kind as u8,
-        s.ellipsoid.semi_major_axis(),
-        s.ellipsoid.flattening(),
-        s.lon0,
-        s.lat0,
-        s.lat1,
-        s.lat2,
-        s.false_easting,
-        s.false_northing,
-    )
-}
-
-/// A point's number and results.
-pub(crate) fn project(way: Way, s: &Settings, u: f64, v: f64) -> (u8, f64, f64) {
-    let (mut p, mut q) = (0.0, 0.0);
-    let number = lenthuc_project(
-        way as u8,
-        s.kind as u8,
-        s.ellipsoid.semi_major_axis(),
-        s.ellipsoid.flattening(),
-        s.lon0,
-        s.lat0,
-        s.lat1,
-        s.lat2,
-        s.false_easting,
-        s.false_northing,
-        u,
-        v,
-        &mut p,
-        &mut q,
+/// Builds the projection of a kind's letter. Another version's archive would mean other things by
+/// the same numbers, so this panics where it is linked.
+pub(crate) fn build(kind: u8, settings: &Ordered) -> (Outcome, Numbers) {
+    let linked = lenthuc_version();
+    assert!(
+        linked == VERSION,
+        "libcapi.a has the version {linked}, and lenthuc {} needs {VERSION}",
+        env!("CARGO_PKG_VERSION")
     );
-    (number, p, q)
+    let mut projection = [0.0; 31];
+    let outcome = lenthuc_build(kind, settings, &mut projection);
+    (outcome, projection)
 }
 
-/// 0, and the numbers and results of a column of points; or, of unequal lengths, another number,
+/// Of a point, and its two results.
+pub(crate) fn point(way: Way, projection: &Numbers, u: f64, v: f64) -> (Outcome, f64, f64) {
+    let function = match way {
+        Way::Forward => lenthuc_forward,
+        Way::Inverse => lenthuc_inverse,
+    };
+    let (mut p, mut q) = (0.0, 0.0);
+    let outcome = function(projection, u, v, &mut p, &mut q);
+    (outcome, p, q)
+}
+
+/// 0, and the outcomes and results of a column of points; or, of unequal lengths, another number,
 /// and everything as it was.
 pub(crate) fn column(
     way: Way,
-    s: &Settings,
+    projection: &Numbers,
     [u, v]: [&[f64]; 2],
     [p, q]: [&mut [f64]; 2],
-    numbers: &mut [u8],
+    outcomes: &mut [Outcome],
 ) -> u8 {
+    let function = match way {
+        Way::Forward => lenthuc_forward_column,
+        Way::Inverse => lenthuc_inverse_column,
+    };
     // SAFETY: each pointer and the length after it are of one slice. The function reads u and v
-    // and writes p, q and numbers, each within its length, and keeps no pointer; the borrows say
+    // and writes p, q and outcomes, each within its length, and keeps no pointer; the borrows say
     // that the written ones overlap nothing else. It tests itself whether the lengths are equal.
+    // An `Outcome` may hold any byte.
     unsafe {
-        lenthuc_column(
-            way as u8,
-            s.kind as u8,
-            s.ellipsoid.semi_major_axis(),
-            s.ellipsoid.flattening(),
-            s.lon0,
-            s.lat0,
-            s.lat1,
-            s.lat2,
-            s.false_easting,
-            s.false_northing,
+        function(
+            projection,
             u.as_ptr(),
             u.len(),
             v.as_ptr(),
@@ -144,8 +148,8 @@ pub(crate) fn column(
             p.len(),
             q.as_mut_ptr(),
             q.len(),
-            numbers.as_mut_ptr(),
-            numbers.len(),
+            outcomes.as_mut_ptr(),
+            outcomes.len(),
         )
     }
 }

@@ -22,13 +22,15 @@ macro_rules! refusals {
         }
 
         impl Refusal {
-            /// The refusal's number, as in a sheet and in a column of numbers.
+            /// The refusal's number, as on a sheet.
+            #[must_use]
             pub const fn number(self) -> u8 {
                 self as u8
             }
 
             /// The refusal of a number. None of 0, which stands for an answer, and of a number that
             /// is no refusal.
+            #[must_use]
             pub const fn from_number(number: u8) -> Option<Self> {
                 match number {
                     $($number => Some(Self::$variant),)*
@@ -46,7 +48,7 @@ macro_rules! refusals {
 }
 
 // The rows of docs/refusals.txt whose numbers a point or a setting can get through this crate. A
-// letter that names no way or no kind, 2, cannot be written with its types.
+// letter that names no kind, 2, cannot be written with its types.
 refusals! {
     InverseFlattening = 3, "the inverse flattening (1/f) is not a finite number above 1";
     SemiMajorAxis = 4, "the semi-major axis (a) is not a finite number above 0";
@@ -96,16 +98,3 @@ impl fmt::Display for UnequalLengths {
 }
 
 impl Error for UnequalLengths {}
-
-/// What a number of the archive says.
-pub(crate) fn answered(number: u8) -> Result<(), Refusal> {
-    if number == 0 {
-        return Ok(());
-    }
-    Err(Refusal::from_number(number).unwrap_or_else(|| unknown(number)))
-}
-
-/// The archive gives the numbers above alone, so another one speaks of an archive of another version.
-pub(crate) fn unknown(number: u8) -> ! {
-    panic!("libcapi.a gave the number {number}, which lenthuc lacks")
-}

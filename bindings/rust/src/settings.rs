@@ -1,19 +1,11 @@
-//! What every call hands to the archive: a kind's letter, its ellipsoid and its settings.
+//! What a projection is built of.
 
 use crate::ellipsoid::Ellipsoid;
-use crate::raw;
-use crate::refusal::{Answer, Refusal, UnequalLengths, answered, unknown};
-
-/// A way, by its letter.
-#[derive(Clone, Copy)]
-#[repr(u8)]
-pub(crate) enum Way {
-    Forward = b'F',
-    Inverse = b'I',
-}
+use crate::raw::Ordered;
+use std::fmt;
 
 /// A kind, by its letter.
-#[derive(Clone, Copy, Debug, PartialEq)]
+#[derive(Clone, Copy, PartialEq)]
 #[repr(u8)]
 pub(crate) enum Kind {
     Lambert = b'L',
@@ -26,8 +18,8 @@ pub(crate) enum Kind {
 }
 
 /// The settings of a projection. Those that its kind does not use are 0.
-#[derive(Clone, Copy, Debug, PartialEq)]
-pub struct Settings {
+#[derive(Clone, Copy, PartialEq)]
+pub(crate) struct Settings {
     pub(crate) kind: Kind,
     pub(crate) ellipsoid: Ellipsoid,
     pub(crate) lon0: f64,
@@ -36,12 +28,6 @@ pub struct Settings {
     pub(crate) lat2: f64,
     pub(crate) false_easting: f64,
     pub(crate) false_northing: f64,
-}
-
-/// A projection that the archive can build. No other crate can name this trait, so every
-/// `Projection` is one of this crate's.
-pub trait Built {
-    fn settings(&self) -> &Settings;
 }
 
 impl Settings {
@@ -64,38 +50,46 @@ impl Settings {
         }
     }
 
-    /// The settings, where a projection can be built of them.
-    pub(crate) fn built(self) -> Result<Self, Refusal> {
-        answered(raw::new(&self)).map(|()| self)
+    /// The numbers among them, in the archive's order.
+    pub(crate) fn ordered(&self) -> Ordered {
+        [
+            self.ellipsoid.semi_major_axis(),
+            self.ellipsoid.flattening(),
+            self.lon0,
+            self.lat0,
+            self.lat1,
+            self.lat2,
+            self.false_easting,
+            self.false_northing,
+        ]
     }
+}
 
-    pub(crate) fn project(&self, way: Way, u: f64, v: f64) -> Answer {
-        let (number, p, q) = raw::project(way, self, u, v);
-        answered(number).map(|()| (p, q))
-    }
-
-    pub(crate) fn column(
-        &self,
-        way: Way,
-        inputs: [&[f64]; 2],
-        results: [&mut [f64]; 2],
-        numbers: &mut [u8],
-    ) -> Result<(), UnequalLengths> {
-        match raw::column(way, self, inputs, results, numbers) {
-            0 => Ok(()),
-            UnequalLengths::NUMBER => Err(UnequalLengths),
-            number => unknown(number),
+/// The type's name, and those settings that its constructor takes.
+impl fmt::Debug for Settings {
+    fn fmt(&self, f: &mut fmt::Formatter<'_>) -> fmt::Result {
+        let mut shown = f.debug_struct(match self.kind {
+            Kind::Lambert | Kind::LambertSpherical => "LambertAzimuthalEqualArea",
+            Kind::Albers => "AlbersEqualArea",
+            Kind::EqualEarth => "EqualEarth",
+            Kind::Cassini => "CassiniSoldner",
+            Kind::Polyconic => "AmericanPolyconic",
+            Kind::Guam => "GuamProjection",
+        });
+        shown.field("ellipsoid", &self.ellipsoid);
+        shown.field("lon0", &self.lon0);
+        if self.kind != Kind::EqualEarth {
+            shown.field("lat0", &self.lat0);
         }
-    }
-
-    pub(crate) fn points(&self, way: Way, points: &[(f64, f64)]) -> Vec<Answer> {
-        let (u, v): (Vec<_>, Vec<_>) = points.iter().copied().unzip();
-        let (mut p, mut q) = (vec![0.0; u.len()], vec![0.0; u.len()]);
-        let mut numbers = vec![0; u.len()];
-        self.column(way, [&u, &v], [&mut p, &mut q], &mut numbers)
-            .expect("five columns of one length");
-        let pairs = p.into_iter().zip(q);
-        let answer = |(number, pair)| answered(number).map(|()| pair);
-        numbers.into_iter().zip(pairs).map(answer).collect()
+        if self.kind == Kind::Albers {
+            shown.field("lat1", &self.lat1);
+            shown.field("lat2", &self.lat2);
+        }
+        shown.field("false_easting", &self.false_easting);
+        shown.field("false_northing", &self.false_northing);
+        if let Kind::Lambert | Kind::LambertSpherical = self.kind {
+            shown.field("spherical", &(self.kind == Kind::LambertSpherical));
+        }
+        shown.finish()
     }
 }

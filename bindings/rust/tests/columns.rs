@@ -3,18 +3,24 @@
 mod common;
 
 use common::{Bits, EARTH, KINDS, NANS, Random, WAYS, bits, build, column, project};
-use lenthuc::{Projection, Refusal, UnequalLengths};
+use lenthuc::{Outcome, Projection, Refusal, UnequalLengths};
+use std::sync::Arc;
 use std::thread;
 
-/// A column's answers. The results' columns hold NaN before, and the numbers' one no number.
+/// An outcome that no point has, so that a place that is left out is noticed.
+fn unwritten() -> Outcome {
+    Outcome::from(Refusal::Sphere)
+}
+
+/// A column's answers. The results' columns hold NaN before, and the outcomes' one another refusal.
 fn answers(map: &dyn Projection, way: u8, u: &[f64], v: &[f64]) -> Vec<Bits> {
     let (mut p, mut q) = (vec![f64::NAN; u.len()], vec![f64::NAN; u.len()]);
-    let mut numbers = vec![99; u.len()];
-    column(map, way, [u, v], [&mut p, &mut q], &mut numbers).expect("equal lengths");
+    let mut outcomes = vec![unwritten(); u.len()];
+    column(map, way, [u, v], [&mut p, &mut q], &mut outcomes).expect("equal lengths");
     let pairs = p.into_iter().zip(q);
-    let answers = numbers.into_iter().zip(pairs);
+    let answers = outcomes.into_iter().zip(pairs);
     answers
-        .map(|(number, (p, q))| (number, p.to_bits(), q.to_bits()))
+        .map(|(outcome, (p, q))| (outcome.number(), p.to_bits(), q.to_bits()))
         .collect()
 }
 
@@ -59,7 +65,7 @@ fn are_single_calls_on_any_map() {
         for _ in 0..600 {
             let mut settings = EARTH;
             for setting in &mut settings {
-                if random.bits().is_multiple_of(3) {
+                if random.bits() % 3 == 0 {
                     *setting = f64::from_bits(random.bits());
                 }
             }
@@ -124,8 +130,8 @@ fn of_unequal_lengths_stay_as_they_are() {
                     lengths[odd] = other;
                     let [u, v, mut p, mut q] =
                         [0, 1, 2, 3].map(|place| lent[..lengths[place]].to_vec());
-                    let mut numbers = vec![0xa5; lengths[4]];
-                    let said = column(&*map, way, [&u, &v], [&mut p, &mut q], &mut numbers);
+                    let mut outcomes = vec![unwritten(); lengths[4]];
+                    let said = column(&*map, way, [&u, &v], [&mut p, &mut q], &mut outcomes);
                     assert_eq!(said, Err(UnequalLengths));
                     for (column, length) in [u, v, p, q].into_iter().zip(lengths) {
                         assert!(
@@ -135,7 +141,7 @@ fn of_unequal_lengths_stay_as_they_are() {
                                 .eq(NANS[..length].iter().copied())
                         );
                     }
-                    assert_eq!(numbers, vec![0xa5; lengths[4]]);
+                    assert_eq!(outcomes, vec![unwritten(); lengths[4]]);
                 }
             }
         }
@@ -149,25 +155,25 @@ fn keep_to_their_part() {
     for kind in KINDS {
         let map = build(kind, EARTH).expect("a map of the Earth");
         let (lon, lat) = ([0.2; 6], [0.4; 6]);
-        let (mut p, mut q, mut numbers) = ([before; 6], [before; 6], [99; 6]);
+        let (mut p, mut q, mut outcomes) = ([before; 6], [before; 6], [unwritten(); 6]);
         let part = 2..5;
         map.forward_column(
             &lon[part.clone()],
             &lat[part.clone()],
             &mut p[part.clone()],
             &mut q[part.clone()],
-            &mut numbers[part.clone()],
+            &mut outcomes[part.clone()],
         )
         .expect("equal lengths");
         let (x, y) = map.forward(0.2, 0.4).expect("a point");
         for i in 0..6 {
-            let (expected, number) = match part.contains(&i) {
-                true => ((x, y), 0),
-                false => ((before, before), 99),
+            let (expected, outcome) = match part.contains(&i) {
+                true => ((x, y), Outcome::ANSWERED),
+                false => ((before, before), unwritten()),
             };
             assert_eq!(p[i].to_bits(), expected.0.to_bits());
             assert_eq!(q[i].to_bits(), expected.1.to_bits());
-            assert_eq!(numbers[i], number);
+            assert_eq!(outcomes[i], outcome);
         }
     }
 }
@@ -230,4 +236,23 @@ fn of_several_threads() {
             assert_eq!(thread.join().expect("the thread ends"), expected);
         }
     });
+}
+
+/// A map that threads own together is the same map in each, and after them.
+#[test]
+fn of_threads_that_own_the_map() {
+    for kind in KINDS {
+        let map: Arc<dyn Projection> = build(kind, EARTH).expect("a map of the Earth").into();
+        let expected = bits(map.forward(0.2, 0.6));
+        let threads: Vec<_> = (0..4)
+            .map(|_| {
+                let map = Arc::clone(&map);
+                thread::spawn(move || bits(map.forward(0.2, 0.6)))
+            })
+            .collect();
+        for thread in threads {
+            assert_eq!(thread.join().expect("the thread ends"), expected);
+        }
+        assert_eq!(bits(map.forward(0.2, 0.6)), expected);
+    }
 }

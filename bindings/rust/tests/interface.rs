@@ -1,56 +1,40 @@
-//! What `lenthuc.h` says and no type of the crate can ask: any letter, settings that are refused in
-//! every function, results of refusals, pointers of length 0.
+//! What `lenthuc.h` says and no type of the crate can ask: the version, any letter, projections that
+//! are refused or that no one built, results of refusals, pointers of length 0.
 
 mod common;
 
-use common::{Bits, EARTH, KINDS, NANS, Settings, WAYS};
+use common::{Bits, EARTH, KINDS, NANS, Random, Settings, next_up};
+use std::f64::consts::{FRAC_PI_2, PI};
 use std::ptr;
 
 // The crate links the archive.
 use lenthuc as _;
 
-// SAFETY: the signatures are those of lenthuc.h; a `&mut f64` is a pointer as it asks for.
+type Numbers = [f64; 31];
+
+// SAFETY: the signatures are those of lenthuc.h; a reference is a pointer as it asks for.
 unsafe extern "C" {
+    safe fn lenthuc_version() -> u32;
     safe fn lenthuc_from_a_f(a: f64, f: f64) -> u8;
     safe fn lenthuc_from_a_rf(a: f64, rf: f64, f: &mut f64) -> u8;
-    safe fn lenthuc_new(
-        kind: u8,
-        a: f64,
-        f: f64,
-        lon0: f64,
-        lat0: f64,
-        lat1: f64,
-        lat2: f64,
-        fe: f64,
-        fn_: f64,
+    safe fn lenthuc_build(kind: u8, settings: &Settings, projection: &mut Numbers) -> u8;
+    safe fn lenthuc_forward(map: &Numbers, u: f64, v: f64, p: &mut f64, q: &mut f64) -> u8;
+    safe fn lenthuc_inverse(map: &Numbers, u: f64, v: f64, p: &mut f64, q: &mut f64) -> u8;
+    fn lenthuc_forward_column(
+        map: &Numbers,
+        u: *const f64,
+        us: usize,
+        v: *const f64,
+        vs: usize,
+        p: *mut f64,
+        ps: usize,
+        q: *mut f64,
+        qs: usize,
+        numbers: *mut u8,
+        ns: usize,
     ) -> u8;
-    safe fn lenthuc_project(
-        way: u8,
-        kind: u8,
-        a: f64,
-        f: f64,
-        lon0: f64,
-        lat0: f64,
-        lat1: f64,
-        lat2: f64,
-        fe: f64,
-        fn_: f64,
-        u: f64,
-        v: f64,
-        p: &mut f64,
-        q: &mut f64,
-    ) -> u8;
-    fn lenthuc_column(
-        way: u8,
-        kind: u8,
-        a: f64,
-        f: f64,
-        lon0: f64,
-        lat0: f64,
-        lat1: f64,
-        lat2: f64,
-        fe: f64,
-        fn_: f64,
+    fn lenthuc_inverse_column(
+        map: &Numbers,
         u: *const f64,
         us: usize,
         v: *const f64,
@@ -66,110 +50,215 @@ unsafe extern "C" {
 
 const LINE_FORM: u8 = 2;
 
-fn new(kind: u8, [a, f, lon0, lat0, lat1, lat2, fe, fn_]: Settings) -> u8 {
-    lenthuc_new(kind, a, f, lon0, lat0, lat1, lat2, fe, fn_)
+/// The points that are asked, forward and back.
+const POINTS: [[(f64, f64); 3]; 2] = [
+    [(0.2, 0.6), (f64::NAN, 0.6), (0.2, 2.0)],
+    [(2e5, -3e5), (f64::INFINITY, 0.0), (1e300, 0.0)],
+];
+
+/// What building says, and the projection, of which every number is NaN before.
+fn build(kind: u8, settings: Settings) -> (u8, Numbers) {
+    let mut map = [f64::NAN; 31];
+    let number = lenthuc_build(kind, &settings, &mut map);
+    (number, map)
 }
 
-/// A point of the map, into places that hold NaN before.
-fn project(way: u8, kind: u8, settings: Settings) -> Bits {
-    let [a, f, lon0, lat0, lat1, lat2, fe, fn_] = settings;
-    let (u, v, mut p, mut q) = (0.2, 0.6, f64::NAN, f64::NAN);
-    let number = lenthuc_project(
-        way, kind, a, f, lon0, lat0, lat1, lat2, fe, fn_, u, v, &mut p, &mut q,
+/// What a projection answers to the points, which is the same by single calls, into places that hold
+/// NaN before, and by columns.
+fn answers(map: &Numbers) -> [[Bits; 3]; 2] {
+    let singles = [lenthuc_forward, lenthuc_inverse];
+    let columns = [lenthuc_forward_column, lenthuc_inverse_column];
+    [0, 1].map(|way| {
+        let single = POINTS[way].map(|(u, v)| {
+            let (mut p, mut q) = (f64::NAN, f64::NAN);
+            let number = singles[way](map, u, v, &mut p, &mut q);
+            (number, p.to_bits(), q.to_bits())
+        });
+        let (u, v) = (
+            POINTS[way].map(|point| point.0),
+            POINTS[way].map(|point| point.1),
+        );
+        let (mut p, mut q, mut numbers) = ([f64::NAN; 3], [f64::NAN; 3], [99; 3]);
+        // SAFETY: five arrays of three elements.
+        let said = unsafe {
+            columns[way](
+                map,
+                u.as_ptr(),
+                3,
+                v.as_ptr(),
+                3,
+                p.as_mut_ptr(),
+                3,
+                q.as_mut_ptr(),
+                3,
+                numbers.as_mut_ptr(),
+                3,
+            )
+        };
+        assert_eq!(said, 0);
+        let column = [0, 1, 2].map(|i| (numbers[i], p[i].to_bits(), q[i].to_bits()));
+        assert_eq!(column, single);
+        single
+    })
+}
+
+/// What a projection that was refused answers: its number to every point, and +0.
+fn refused(number: u8) -> [[Bits; 3]; 2] {
+    [[(number, 0, 0); 3]; 2]
+}
+
+/// The archive's version is the header's and the crate's.
+#[test]
+fn versions() {
+    let header = include_str!("../../c/lenthuc.h");
+    let stated = format!("#define LENTHUC_VERSION {}\n", lenthuc_version());
+    assert!(header.contains(&stated), "{stated}");
+    let version = lenthuc_version();
+    let parts = [version / 10_000, version / 100 % 100, version % 100];
+    let [major, minor, patch] = parts;
+    assert_eq!(
+        format!("{major}.{minor}.{patch}"),
+        env!("CARGO_PKG_VERSION")
     );
-    (number, p.to_bits(), q.to_bits())
 }
 
-/// The same point three times, as a column.
-fn column(way: u8, kind: u8, settings: Settings) -> [Bits; 3] {
-    let [a, f, lon0, lat0, lat1, lat2, fe, fn_] = settings;
-    let (u, v, mut p, mut q) = ([0.2; 3], [0.6; 3], [f64::NAN; 3], [f64::NAN; 3]);
-    let mut numbers = [99; 3];
-    // SAFETY: five arrays of three elements.
-    let said = unsafe {
-        lenthuc_column(
-            way,
-            kind,
-            a,
-            f,
-            lon0,
-            lat0,
-            lat1,
-            lat2,
-            fe,
-            fn_,
-            u.as_ptr(),
-            3,
-            v.as_ptr(),
-            3,
-            p.as_mut_ptr(),
-            3,
-            q.as_mut_ptr(),
-            3,
-            numbers.as_mut_ptr(),
-            3,
-        )
-    };
-    assert_eq!(said, 0);
-    [0, 1, 2].map(|i| (numbers[i], p[i].to_bits(), q[i].to_bits()))
-}
-
-/// Of all 65,536 pairs of letters 14 name a way and a kind.
+/// Of all 256 letters seven name a kind.
 #[test]
 fn letters() {
     let mut named = 0;
     for kind in 0..=u8::MAX {
-        let known = KINDS.contains(&kind);
-        assert_eq!(new(kind, EARTH), if known { 0 } else { LINE_FORM });
-        for way in 0..=u8::MAX {
-            let point = project(way, kind, EARTH);
-            if known && WAYS.contains(&way) {
-                named += 1;
-                assert_eq!(point.0, 0);
-            } else {
-                assert_eq!(point, (LINE_FORM, 0, 0));
-            }
-            assert_eq!(column(way, kind, EARTH), [point; 3]);
+        let (number, map) = build(kind, EARTH);
+        if KINDS.contains(&kind) {
+            named += 1;
+            assert_eq!(number, 0);
+            let [[there, no_number, beyond], [back, no_place, _]] = answers(&map);
+            assert_eq!((there.0, back.0), (0, 0));
+            assert_eq!(no_number, (16, 0, 0));
+            assert_eq!(beyond, (17, 0, 0));
+            assert_eq!(no_place, (20, 0, 0));
+        } else {
+            assert_eq!(number, LINE_FORM);
+            assert_eq!(answers(&map), refused(LINE_FORM));
         }
     }
-    assert_eq!(named, 14);
+    assert_eq!(named, 7);
 }
 
-/// A letter is looked at first, then a and f, then the settings.
+/// A letter is looked at first, then a and f, then the settings. What is refused answers every point
+/// by the number of its refusal, before the point is looked at.
 #[test]
 fn refusals_in_their_order() {
     let mut settings = [f64::NAN; 8];
-    assert_eq!(project(b'F', b'x', settings), (LINE_FORM, 0, 0));
-    assert_eq!(project(b'x', b'A', settings), (LINE_FORM, 0, 0));
-    assert_eq!(new(b'x', settings), LINE_FORM);
-    for (place, number) in [4, 5, 6, 7, 7, 7, 9, 10].into_iter().enumerate() {
-        assert_eq!(new(b'A', settings), number);
-        for way in WAYS {
-            assert_eq!(project(way, b'A', settings), (number, 0, 0));
-            assert_eq!(column(way, b'A', settings), [(number, 0, 0); 3]);
-        }
+    let (number, map) = build(b'x', settings);
+    assert_eq!(number, LINE_FORM);
+    assert_eq!(answers(&map), refused(LINE_FORM));
+    for (place, expected) in [4, 5, 6, 7, 7, 7, 9, 10].into_iter().enumerate() {
+        let (number, map) = build(b'A', settings);
+        assert_eq!(number, expected);
+        assert_eq!(answers(&map), refused(expected));
         settings[place] = EARTH[place];
     }
-    assert_eq!(new(b'A', settings), 0);
+    assert_eq!(build(b'A', settings).0, 0);
 }
 
-/// A setting that a kind does not use never affects its answer.
+/// The refusals that are a kind's own.
+#[test]
+fn refusals_of_kinds() {
+    let near_pole = FRAC_PI_2 - 1e-9;
+    let near_1 = 1.0 - 2.0_f64.powi(-53);
+    let smallest = f64::from_bits(0x3cc2_03af_9ee7_5617);
+    for (kind, expected, settings) in [
+        (b'G', 11, [1.0, 0.0, 0.0, 0.0, 0.0, 0.0, 0.0, 0.0]),
+        (b'L', 12, [1.0, near_1, 0.0, 0.0, 0.0, 0.0, 0.0, 0.0]),
+        (b'S', 12, [1.0, near_1, 0.0, 0.0, 0.0, 0.0, 0.0, 0.0]),
+        (b'S', 13, [1.0, 0.0, 0.0, near_pole, 0.0, 0.0, 0.0, 0.0]),
+        (
+            b'L',
+            14,
+            [f64::MAX, smallest, 0.0, -1.0, 0.0, 0.0, 0.0, 0.0],
+        ),
+        (b'A', 15, [1.0, 0.003, 0.0, 0.0, 0.5, -0.5, 0.0, 0.0]),
+    ] {
+        let (number, map) = build(kind, settings);
+        assert_eq!(number, expected);
+        assert_eq!(answers(&map), refused(expected));
+    }
+}
+
+/// A setting that a kind does not use never affects an answer.
 #[test]
 fn settings_without_use() {
-    for way in WAYS {
-        for (kind, places) in [
-            (b'E', vec![3, 4, 5]),
-            (b'L', vec![4, 5]),
-            (b'C', vec![4, 5]),
-        ] {
-            let expected = project(way, kind, EARTH);
-            for pattern in NANS.into_iter().chain([0, 1, 1 << 63, 9e9_f64.to_bits()]) {
-                let mut settings = EARTH;
-                for &place in &places {
-                    settings[place] = f64::from_bits(pattern);
+    for kind in KINDS {
+        let places: &[usize] = match kind {
+            b'A' => &[],
+            b'E' => &[3, 4, 5],
+            _ => &[4, 5],
+        };
+        let expected = answers(&build(kind, EARTH).1);
+        for pattern in NANS.into_iter().chain([0, 1, 1 << 63, 9e9_f64.to_bits()]) {
+            let mut settings = EARTH;
+            for &place in places {
+                settings[place] = f64::from_bits(pattern);
+            }
+            let (number, map) = build(kind, settings);
+            assert_eq!(number, 0);
+            assert_eq!(answers(&map), expected);
+        }
+    }
+}
+
+/// Numbers that hold no projection: 31 zeros, and others that no one built.
+#[test]
+fn no_projection() {
+    for x in [0.0, -0.0, 1.0, -1.0, f64::INFINITY, f64::NAN, f64::MAX] {
+        assert_eq!(answers(&[x; 31]), refused(LINE_FORM), "{x}");
+    }
+}
+
+/// A built projection may be copied to other memory, and built over another.
+#[test]
+fn copies_and_second_buildings() {
+    let mut map = [f64::NAN; 31];
+    for kind in KINDS {
+        for settings in [EARTH, [f64::NAN; 8]] {
+            let number = lenthuc_build(kind, &settings, &mut map);
+            let (first, fresh) = build(kind, settings);
+            assert_eq!(number, first);
+            assert_eq!(map.map(f64::to_bits), fresh.map(f64::to_bits));
+            let copy = Box::new(map);
+            assert_eq!(answers(&copy), answers(&fresh));
+        }
+    }
+}
+
+/// A projection that something has written over still answers, and on the map, or refuses with +0.
+#[test]
+fn damaged_projections() {
+    let mut random = Random(5);
+    let bound = FRAC_PI_2 + 1e-12;
+    for kind in KINDS {
+        let (_, built) = build(kind, EARTH);
+        for place in 0..31 {
+            let was = built[place];
+            let nans = NANS.into_iter().map(f64::from_bits);
+            let near = [0.0, next_up(0.0), -was, next_up(was.abs()), f64::INFINITY];
+            let any = (0..30).map(|_| f64::from_bits(random.bits()));
+            for x in nans.chain(near).chain(any) {
+                let mut map = built;
+                map[place] = x;
+                let [there, back] = answers(&map);
+                for (number, p, q) in there.into_iter().chain(back) {
+                    let (p, q) = (f64::from_bits(p), f64::from_bits(q));
+                    assert!(p.is_finite() && q.is_finite());
+                    assert!(number == 0 || (p.to_bits(), q.to_bits()) == (0, 0));
                 }
-                assert_eq!(project(way, kind, settings), expected);
-                assert_eq!(new(kind, settings), 0);
+                for (_, lon, lat) in back {
+                    let (lon, lat) = (f64::from_bits(lon), f64::from_bits(lat));
+                    assert!(
+                        lon.abs() <= PI && lat.abs() <= bound,
+                        "{kind} {place} {x:e}"
+                    );
+                }
             }
         }
     }
@@ -184,7 +273,7 @@ fn flattenings() {
         (f64::NAN, f64::NAN, 3, 0.0),
         // the ends: still flattenings
         (f64::MAX, f64::MAX, 0, 1.0 / f64::MAX),
-        (f64::from_bits(1), 1.0_f64.next_up(), 0, 1.0 - f64::EPSILON),
+        (f64::from_bits(1), next_up(1.0), 0, 1.0 - f64::EPSILON),
     ] {
         let mut f = f64::NAN;
         assert_eq!(lenthuc_from_a_rf(a, rf, &mut f), number);
@@ -196,21 +285,52 @@ fn flattenings() {
     assert_eq!(lenthuc_from_a_f(1.0, 1.0), 5);
 }
 
-/// NULL is a column of length 0.
+/// NULL is a column of length 0, of a refused projection too.
 #[test]
 fn null_of_length_0() {
     let (inputs, results, numbers) = (ptr::null(), ptr::null_mut(), ptr::null_mut());
-    for way in WAYS {
-        for kind in KINDS {
-            let [a, f, lon0, lat0, lat1, lat2, fe, fn_] = EARTH;
-            // SAFETY: of length 0 nothing is read or written.
+    for kind in KINDS {
+        for settings in [EARTH, [f64::NAN; 8]] {
+            let (_, map) = build(kind, settings);
+            for column in [lenthuc_forward_column, lenthuc_inverse_column] {
+                // SAFETY: of length 0 nothing is read or written.
+                let said = unsafe {
+                    column(
+                        &map, inputs, 0, inputs, 0, results, 0, results, 0, numbers, 0,
+                    )
+                };
+                assert_eq!(said, 0);
+            }
+        }
+    }
+}
+
+/// Of unequal lengths 255 is given, of a refused projection too, and nothing is written.
+#[test]
+fn unequal_lengths() {
+    for settings in [EARTH, [f64::NAN; 8]] {
+        let (_, map) = build(b'C', settings);
+        let inputs = [0.1; 2];
+        for column in [lenthuc_forward_column, lenthuc_inverse_column] {
+            let (mut p, mut q, mut numbers) = ([7.0; 2], [8.0; 2], [9; 2]);
+            // SAFETY: no length is more than its array has.
             let said = unsafe {
-                lenthuc_column(
-                    way, kind, a, f, lon0, lat0, lat1, lat2, fe, fn_, inputs, 0, inputs, 0,
-                    results, 0, results, 0, numbers, 0,
+                column(
+                    &map,
+                    inputs.as_ptr(),
+                    2,
+                    inputs.as_ptr(),
+                    1,
+                    p.as_mut_ptr(),
+                    2,
+                    q.as_mut_ptr(),
+                    2,
+                    numbers.as_mut_ptr(),
+                    2,
                 )
             };
-            assert_eq!(said, 0);
+            assert_eq!(said, 255);
+            assert_eq!((p, q, numbers), ([7.0; 2], [8.0; 2], [9; 2]));
         }
     }
 }

@@ -2,7 +2,7 @@
 
 mod common;
 
-use common::{Settings, build, project};
+use common::{EARTH, KINDS, Random, Settings, WAYS, build, next_up, project};
 use lenthuc::{Ellipsoid, Refusal, UnequalLengths};
 use std::collections::HashSet;
 use std::error::Error;
@@ -69,7 +69,7 @@ fn of_ellipsoids() {
 fn of_settings() {
     let bound = FRAC_PI_2 + 1e-12;
     let near_1 = 1.0 - 2.0_f64.powi(-53);
-    for kind in common::KINDS {
+    for kind in KINDS {
         assert_eq!(built(kind, &[(LON0, f64::INFINITY)]), Some(Refusal::Lon0));
         assert_eq!(built(kind, &[(FE, f64::NAN)]), Some(Refusal::FalseEasting));
         assert_eq!(built(kind, &[(FN, f64::NAN)]), Some(Refusal::FalseNorthing));
@@ -77,7 +77,7 @@ fn of_settings() {
     for kind in *b"LSACPG" {
         let refused = built(kind, &[(LAT0, f64::NAN)]);
         assert_eq!(refused, Some(Refusal::LatitudeSetting));
-        let refused = built(kind, &[(LAT0, bound.next_up())]);
+        let refused = built(kind, &[(LAT0, next_up(bound))]);
         assert_eq!(refused, Some(Refusal::LatitudeSettingBeyond));
     }
     assert_eq!(built(b'G', &[]), Some(Refusal::Sphere));
@@ -141,6 +141,51 @@ fn of_points() {
     ];
     for (refused, expected) in cases {
         assert_eq!(refused, Some(expected));
+    }
+}
+
+/// Each kind refuses by the numbers that its documents list, and by no others.
+#[test]
+fn of_each_kind_alone() {
+    let mut random = Random(8);
+    for kind in KINDS {
+        let building: &[u8] = match kind {
+            b'L' | b'S' => &[4, 5, 6, 7, 8, 9, 10, 12, 13, 14],
+            b'A' => &[4, 5, 6, 7, 8, 9, 10, 15],
+            b'E' => &[4, 5, 6, 9, 10],
+            b'G' => &[4, 5, 6, 7, 8, 9, 10, 11],
+            _ => &[4, 5, 6, 7, 8, 9, 10],
+        };
+        let forward: &[u8] = match kind {
+            b'L' | b'S' => &[16, 17, 18, 19],
+            _ => &[16, 17, 19],
+        };
+        let inverse: &[u8] = match kind {
+            b'A' | b'E' => &[20, 22, 23, 24],
+            b'P' => &[20, 21, 22, 23, 24],
+            _ => &[20, 23, 24],
+        };
+        for _ in 0..5000 {
+            let mut settings = EARTH;
+            for setting in &mut settings {
+                if random.bits() % 5 == 0 {
+                    *setting = f64::from_bits(random.bits());
+                }
+            }
+            let map = match build(kind, settings) {
+                Ok(map) => map,
+                Err(refusal) => {
+                    assert!(building.contains(&refusal.number()), "{kind} {refusal:?}");
+                    continue;
+                }
+            };
+            for (way, numbers) in WAYS.into_iter().zip([forward, inverse]) {
+                let (u, v) = (random.input(way), random.input(way));
+                if let Err(refusal) = project(&*map, way, u, v) {
+                    assert!(numbers.contains(&refusal.number()), "{map:?} {refusal:?}");
+                }
+            }
+        }
     }
 }
 

@@ -4,6 +4,7 @@
 mod common;
 
 use common::{Bits, KINDS, WAYS, bits, build, project};
+use lenthuc::Ellipsoid;
 
 const SHEET: &[u8] = include_bytes!("../../../crates/lenthuc/stdin");
 const ANSWERS: &str = include_str!("../../../crates/lenthuc/stdout");
@@ -37,7 +38,7 @@ fn pattern(digits: &[u8]) -> Option<u64> {
     if digits.len() != 16 || !digits.iter().all(lowercase) {
         return None;
     }
-    u64::from_str_radix(str::from_utf8(digits).ok()?, 16).ok()
+    u64::from_str_radix(std::str::from_utf8(digits).ok()?, 16).ok()
 }
 
 /// An answer line: a decimal number and two patterns.
@@ -82,7 +83,9 @@ fn the_programs_sheet() {
 #[test]
 fn the_stored_sample() {
     let mut asked = 0;
-    let lines = SAMPLE.lines().filter(|line| matches!(line.as_bytes(), [_, b',', _, b',', ..]));
+    let lines = SAMPLE
+        .lines()
+        .filter(|line| matches!(line.as_bytes(), [_, b',', _, b',', ..]));
     for (line, rest) in lines.map(|line| line.split_once(' ').expect("an answer")) {
         // A comment may follow the answer.
         let expected = rest.split_once(' ').map_or(rest, |(answer, _)| answer);
@@ -91,4 +94,35 @@ fn the_stored_sample() {
         assert_eq!(ours(&read), answer(expected), "{line}");
     }
     assert!(asked >= 1500, "{asked}");
+}
+
+/// The sample's answers for an ellipsoid's numbers, wherever the crate can make the ellipsoid.
+#[test]
+fn the_stored_ellipsoids() {
+    let mut asked = 0;
+    for line in SAMPLE.lines() {
+        let Some((name, rest)) = line.split_once(',') else {
+            continue;
+        };
+        let derived = match name {
+            "b" => Ellipsoid::b,
+            "e2" => Ellipsoid::e2,
+            "inverse_flattening" => Ellipsoid::inverse_flattening,
+            _ => continue,
+        };
+        let mut words = rest.split_whitespace();
+        let mut word = || words.next().expect("an ellipsoid and an answer").as_bytes();
+        let (of, answer) = (word(), word());
+        let (a, f) = (pattern(&of[..16]), pattern(&of[17..]));
+        let [a, f] = [a, f].map(|bits| f64::from_bits(bits.expect("a pattern")));
+        if let Ok(ellipsoid) = Ellipsoid::from_a_f(a, f) {
+            asked += 1;
+            assert_eq!(
+                Some(derived(&ellipsoid).to_bits()),
+                pattern(answer),
+                "{line}"
+            );
+        }
+    }
+    assert!(asked >= 100, "{asked}");
 }

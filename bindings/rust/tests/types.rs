@@ -122,13 +122,24 @@ fn named_ellipsoids() {
     assert_eq!(Ellipsoid::sphere(6371007.181), Ok(WGS84_SPHERE));
 }
 
+/// What is derived of an ellipsoid, and the ends of it.
 #[test]
-fn types_are_plain_values() {
-    fn plain<T: Copy + Send + Sync + PartialEq + std::fmt::Debug + 'static>(value: T) {
-        let copy = value;
-        assert_eq!(copy, value);
-    }
-    plain(WGS84);
-    plain(EqualEarth::new(WGS84, 0.0, 0.0, 0.0));
-    plain(CassiniSoldner::new(WGS84, 0.0, 0.0, 0.0, 0.0));
+fn derived_numbers() {
+    assert_eq!(WGS84.b(), 6356752.314245179);
+    assert_eq!(WGS84.e2(), 0.0066943799901413165);
+    assert_eq!(GRS80.b(), 6356752.314140356);
+    assert_eq!(INTL1924.inverse_flattening(), 297.0);
+    assert_eq!(UNIT_SPHERE.inverse_flattening(), 0.0);
+    assert_eq!((WGS84_SPHERE.b(), WGS84_SPHERE.e2()), (6371007.181, 0.0));
+    let of = |f| Ellipsoid::from_a_f(1.0, f).expect("an ellipsoid");
+    assert_eq!(of(-0.0).inverse_flattening().to_bits(), 0);
+    let end = 2.0_f64.powi(-1023) / 2.0;
+    assert_eq!(of(end).inverse_flattening(), f64::INFINITY);
+    assert!(
+        of(f64::from_bits(end.to_bits() + 1))
+            .inverse_flattening()
+            .is_finite()
+    );
+    const B: f64 = WGS84.b();
+    assert_eq!(B, WGS84.b());
 }

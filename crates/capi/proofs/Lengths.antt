@@ -1,7 +1,7 @@
 -- What the test of the lengths says, and what the columns then hold.
 use Prim.Native.Nat.{ℕ}
-use mathlib.Core.Path.{_≡_, refl, ap}
-use mathlib.Core.Bool.{Bool, true, false, cond, _&&_}
+use mathlib.Core.Path.{_≡_, refl}
+use mathlib.Core.Bool.{Bool, true, false, _&&_}
 use mathlib.Core.List.{List, map}
 use borrow.Author.Tests.{eqb-true}
 use lib.Dec.{eqb}

@@ -1,23 +1,29 @@
--- A refusal's number is never 0, so a call gives 0 exactly where it answers.
+-- A refusal's number is never 0, so a call gives 0 exactly where it answers: whatever is built, and a point by any numbers.
 use Prim.Native.Nat.{ℕ}
 use mathlib.Core.Path.{_≡_}
-use mathlib.Core.Bool.{Bool, true, false, cond, _&&_}
+use mathlib.Core.Bool.{Bool, true, false, cond}
+use mathlib.Core.List.{List}
 use native.Mathlib.Omega.{arith}
 use lib.Ieee.{Float}
 use Rattle.refusals.specs.Refusals.{LINE-FORM}
 use Rattle.projection.specs.declared.Answer.the-variants.{Refused}
 use Rattle.projection.proofs.NeverZero.{NeverZero}
-use Rattle.letters.specs.Letters.{is-way, is-kind, way-of, kind-of}
-use Rattle.letters.specs.declared.Settings.{Settings}
+use Rattle.letters.specs.Letters.{is-kind, kind-of}
+use Rattle.letters.specs.declared.Way.{Way}
 use Rattle.kinds.specs.Kinds as kinds
 use Rattle.kinds.specs.declared.Built.the-variants as built
-use Rattle.kinds.proofs.NeverZero.{build-never-zero, answer-never-zero}
-use Rattle.capi.specs.Points.{build, project}
+use Rattle.kinds.proofs.NeverZero as of-kinds
+use Rattle.packing.specs.Packing.{at, unpacked}
+use Rattle.packing.proofs.NeverZero.{unpacked-never-zero}
+use Rattle.capi.specs.Building.{settings, build}
 
-pub project-never-zero : (way kind : ℕ) (a f : Float) (s : Settings) (u v : Float) → NeverZero Refused (project way kind a f s u v)
+pub build-never-zero : (kind : ℕ) (l : List Float) → NeverZero built.Refused (build kind l .built)
 unfolding build kinds.refused
-project-never-zero way kind a f s u v = answer-never-zero (way-of way) (build way kind a f s) u v (go (is-way way && is-kind kind))
+build-never-zero kind l = go (is-kind kind)
   where
-    go : (b : Bool) → NeverZero built.Refused (cond b (kinds.build (kind-of kind) a f s) (kinds.refused LINE-FORM) .built)
-    go true = build-never-zero (kind-of kind) a f s
+    go : (b : Bool) → NeverZero built.Refused (cond b (kinds.build (kind-of kind) (at l 0) (at l 1) (settings l)) (kinds.refused LINE-FORM) .built)
+    go true = of-kinds.build-never-zero (kind-of kind) (at l 0) (at l 1) (settings l)
     go false = λ n e z. let c : LINE-FORM ≡ n = cc in omega arith
+
+pub answer-never-zero : (way : Way) (l : List Float) (u v : Float) → NeverZero Refused (kinds.answer way (unpacked l) u v)
+answer-never-zero way l u v = of-kinds.answer-never-zero way (unpacked l) u v (unpacked-never-zero l)

@@ -1,20 +1,16 @@
-// A column of points by one projection, built once.
+// A column of points by one projection.
 ghost use mathlib.Core.Path.{_≡_};
 ghost use mathlib.Core.List.{map};
-ghost use Prim.Native.Nat.{ℕ};
 ghost use lib.ListN.{length};
-ghost use lib.Ieee.{Float};
 ghost use Rattle.projection.specs.Results.{number, first-result, second-result};
+ghost use Rattle.letters.specs.declared.Way.the-variants.{Forward, Inverse};
 ghost use Rattle.kinds.specs.Kinds.{answer};
-ghost use Rattle.letters.specs.Letters.{way-of};
-ghost use Rattle.capi.specs.Points.{settings, build, project};
+ghost use Rattle.packing.specs.Packing.{unpacked};
 ghost use Rattle.capi.specs.Columns.{each, Column};
 ghost use Rattle.capi.specs.OnTheMap.{ColumnOnTheMap};
-use crate::points::build;
 use kinds::Projection;
-use letters::Settings;
 use letters::Way;
-use letters::way_of;
+use packing::unpacked;
 use projection::first_result;
 use projection::number;
 use projection::second_result;
@@ -43,40 +39,67 @@ fn fill(
 }
 
 // Each place of p, q and numbers takes what the single call gives for that place of u and v.
-#[no_mangle]
-pub extern "C" fn lenthuc_column(
-    way: u8,
-    kind: u8,
-    a: f64,
-    f: f64,
-    lon0: f64,
-    lat0: f64,
-    lat1: f64,
-    lat2: f64,
-    false_easting: f64,
-    false_northing: f64,
+fn column(
+    way: Way,
+    projection: &[f64; 31],
     u: &[f64],
     v: &[f64],
     p: &mut [f64],
     q: &mut [f64],
     numbers: &mut [u8],
 ) -> u8
-    ensures { λ r. ⌜ Column (project way kind a f (settings lon0 lat0 lat1 lat2 «false_easting» «false_northing»)) (now (u .entry)) (now (v .entry)) (now (p .entry)) (now (q .entry)) (now (numbers .entry)) r (now (p .exit)) (now (q .exit)) (now (numbers .exit)) × (r ≡ 0 → ColumnOnTheMap (way-of way) (build way kind a f (settings lon0 lat0 lat1 lat2 «false_easting» «false_northing»)) (now (u .entry)) (now (v .entry))) ⌝ }
+    ensures { λ r. ⌜ Column (answer way (unpacked (now (projection .entry)))) (now (u .entry)) (now (v .entry)) (now (p .entry)) (now (q .entry)) (now (numbers .entry)) r (now (p .exit)) (now (q .exit)) (now (numbers .exit)) × (r ≡ 0 → ColumnOnTheMap way (unpacked (now (projection .entry))) (now (u .entry)) (now (v .entry))) ⌝ }
 {
     let n = u.len();
     if (v.len() == n) & (p.len() == n) & (q.len() == n) & (numbers.len() == n) {
-        let settings = Settings {
-            lon0,
-            lat0,
-            lat1,
-            lat2,
-            false_easting,
-            false_northing,
-        };
-        let projection = build(way, kind, a, f, settings);
-        fill(way_of(way), projection, u, v, p, q, numbers);
+        fill(way, unpacked(projection), u, v, p, q, numbers);
         0
     } else {
         UNEQUAL_LENGTHS
     }
+}
+
+#[no_mangle]
+pub extern "C" fn lenthuc_forward_column(
+    projection: &[f64; 31],
+    lon: &[f64],
+    lat: &[f64],
+    easting: &mut [f64],
+    northing: &mut [f64],
+    numbers: &mut [u8],
+) -> u8
+    ensures { λ r. ⌜ Column (answer Forward (unpacked (now (projection .entry)))) (now (lon .entry)) (now (lat .entry)) (now (easting .entry)) (now (northing .entry)) (now (numbers .entry)) r (now (easting .exit)) (now (northing .exit)) (now (numbers .exit)) ⌝ }
+{
+    column(
+        Way::Forward,
+        projection,
+        lon,
+        lat,
+        easting,
+        northing,
+        numbers,
+    )
+}
+
+// Whatever is answered lies on the map, place by place.
+#[no_mangle]
+pub extern "C" fn lenthuc_inverse_column(
+    projection: &[f64; 31],
+    easting: &[f64],
+    northing: &[f64],
+    lon: &mut [f64],
+    lat: &mut [f64],
+    numbers: &mut [u8],
+) -> u8
+    ensures { λ r. ⌜ Column (answer Inverse (unpacked (now (projection .entry)))) (now (easting .entry)) (now (northing .entry)) (now (lon .entry)) (now (lat .entry)) (now (numbers .entry)) r (now (lon .exit)) (now (lat .exit)) (now (numbers .exit)) × (r ≡ 0 → ColumnOnTheMap Inverse (unpacked (now (projection .entry))) (now (easting .entry)) (now (northing .entry))) ⌝ }
+{
+    column(
+        Way::Inverse,
+        projection,
+        easting,
+        northing,
+        lon,
+        lat,
+        numbers,
+    )
 }

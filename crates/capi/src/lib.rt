@@ -1,5 +1,7 @@
 // What Rust and C link. bindings/c/lenthuc.h documents it for both.
+mod building;
 mod columns;
 mod ellipsoids;
 mod points;
 mod sheets;
+mod version;

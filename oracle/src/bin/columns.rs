@@ -2,7 +2,8 @@
 //! the source with 01's functions, and the source with the platform's. The projection is built
 //! once and takes 200,000 points. A figure is the median of the passes, in ns a point, the sides
 //! taking turns. Ends in 1 where an answer of ours is not that of the source with 01's functions.
-//! `columns growth` times ours for 1,000 to 1,000,000 points.
+//! `columns growth` times ours for 1,000 to 1,000,000 points, and `columns single` ours by a column,
+//! by a call for each point, and by building and a call for each.
 
 use oracle::line::{Columns, KINDS, Line, U, V, WAYS};
 use oracle::lines::Lines;
@@ -23,7 +24,8 @@ fn main() -> ExitCode {
     match std::env::args().nth(1).as_deref() {
         None => sides(),
         Some("growth") => growth(),
-        Some(word) => panic!("not growth: {word}"),
+        Some("single") => single(),
+        Some(word) => panic!("neither growth nor single: {word}"),
     }
 }
 
@@ -60,6 +62,30 @@ fn growth() -> ExitCode {
         }
     }
     ExitCode::SUCCESS
+}
+
+fn single() -> ExitCode {
+    println!("ns a point of ours: by a column, by a call each, built anew for each");
+    let mut differ = 0;
+    for kind in KINDS {
+        for way in WAYS {
+            let points = Points::new(way, kind, POINTS);
+            let sides = [ours::column, ours::one_by_one, ours::built_anew];
+            let [column, call, anew] = sides.map(|side| points.filled(side));
+            let others = column.answers().zip(call.answers().zip(anew.answers()));
+            differ += others.filter(|(a, (b, c))| a != b || a != c).count();
+            let figures = points.medians(sides);
+            let (w, k) = (char::from(way), char::from(kind));
+            println!(
+                "{w},{k} {}",
+                figures.map(|ns| format!("{ns:7.1}")).join(" ")
+            );
+        }
+    }
+    if differ > 0 {
+        println!("{differ} answers are not the column's");
+    }
+    ExitCode::from(u8::from(differ > 0))
 }
 
 /// A map and a column of its points.

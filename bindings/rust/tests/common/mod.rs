@@ -5,7 +5,7 @@
 
 use lenthuc::{
     AlbersEqualArea, AmericanPolyconic, Answer, CassiniSoldner, Ellipsoid, EqualEarth,
-    GuamProjection, LambertAzimuthalEqualArea, Projection, Refusal, UnequalLengths,
+    GuamProjection, LambertAzimuthalEqualArea, Outcome, Projection, Refusal, UnequalLengths,
 };
 
 pub const WAYS: [u8; 2] = *b"FI";
@@ -75,13 +75,18 @@ pub fn column(
     way: u8,
     [u, v]: [&[f64]; 2],
     [p, q]: [&mut [f64]; 2],
-    numbers: &mut [u8],
+    outcomes: &mut [Outcome],
 ) -> Result<(), UnequalLengths> {
     match way {
-        b'F' => map.forward_column(u, v, p, q, numbers),
-        b'I' => map.inverse_column(u, v, p, q, numbers),
+        b'F' => map.forward_column(u, v, p, q, outcomes),
+        b'I' => map.inverse_column(u, v, p, q, outcomes),
         _ => panic!("no way has the letter {way}"),
     }
+}
+
+/// The next number above a finite one above 0.
+pub fn next_up(x: f64) -> f64 {
+    f64::from_bits(x.to_bits() + 1)
 }
 
 /// A number, 0 if answered, and the patterns of two results.
@@ -109,7 +114,7 @@ impl Random {
 
     /// Uniform in [-size, size).
     pub fn within(&mut self, size: f64) -> f64 {
-        self.bits().cast_signed() as f64 * 2.0_f64.powi(-63) * size
+        self.bits() as i64 as f64 * 2.0_f64.powi(-63) * size
     }
 
     /// An input of a map: mostly of the size that a way's inputs have, else any pattern or a NaN.

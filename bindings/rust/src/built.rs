@@ -1,0 +1,57 @@
+//! A built projection.
+
+use crate::outcome::{Outcome, unknown};
+use crate::raw::{self, Numbers, Way};
+use crate::refusal::{Answer, Refusal, UnequalLengths};
+use crate::settings::Settings;
+use std::fmt;
+
+/// What a projection was built of, and the numbers that the archive made of it.
+#[derive(Clone, Copy)]
+pub(crate) struct Built {
+    settings: Settings,
+    numbers: Numbers,
+}
+
+impl Built {
+    pub(crate) fn new(settings: Settings) -> Result<Self, Refusal> {
+        let (outcome, numbers) = raw::build(settings.kind as u8, &settings.ordered());
+        outcome.result().map(|()| Self { settings, numbers })
+    }
+
+    pub(crate) const fn settings(&self) -> &Settings {
+        &self.settings
+    }
+
+    pub(crate) fn point(&self, way: Way, u: f64, v: f64) -> Answer {
+        let (outcome, p, q) = raw::point(way, &self.numbers, u, v);
+        outcome.result().map(|()| (p, q))
+    }
+
+    pub(crate) fn column(
+        &self,
+        way: Way,
+        inputs: [&[f64]; 2],
+        results: [&mut [f64]; 2],
+        outcomes: &mut [Outcome],
+    ) -> Result<(), UnequalLengths> {
+        match raw::column(way, &self.numbers, inputs, results, outcomes) {
+            0 => Ok(()),
+            UnequalLengths::NUMBER => Err(UnequalLengths),
+            number => unknown(number),
+        }
+    }
+}
+
+/// The numbers follow from the settings.
+impl PartialEq for Built {
+    fn eq(&self, other: &Self) -> bool {
+        self.settings == other.settings
+    }
+}
+
+impl fmt::Debug for Built {
+    fn fmt(&self, f: &mut fmt::Formatter<'_>) -> fmt::Result {
+        self.settings.fmt(f)
+    }
+}

@@ -1,0 +1,3 @@
+mod Marks
+pub mod NeverZero
+mod Places

@@ -1,0 +1,8 @@
+// A projection as 31 numbers, so that a caller can build it once and keep it: a mark that says what it is, the numbers of its
+// kind, and from place 18 on the 13 meridian numbers.
+mod own;
+mod pack;
+mod unpack;
+
+pub use pack::packed;
+pub use unpack::unpacked;
