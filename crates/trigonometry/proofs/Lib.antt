@@ -1,1 +1,2 @@
+mod OwnRemainder
 mod Quarters
