@@ -1,9 +1,17 @@
--- The laws of signs: the opposite of a rounded number and of a product, for any format.
+-- The laws of signs: the opposite of an opposite, of a rounded number and of a product, for any format.
 use mathlib.Core.Path.{_≡_, refl, ap}
 use mathlib.Core.Bool.{Bool, true, false, not, cond}
 use Prim.Native.Nat.{ℕ, zero, suc, _+_, _*_, _^_}
 use lib.Dec.{eqb, ltb}
 use lib.Ieee.{Float, Format, nan, inf, fin, neg, mul, round, units, odd, unlike, low, emax, prec}
+
+pub neg-neg : (x : Float) → neg (neg x) ≡ x
+unfolding neg
+neg-neg nan = refl
+neg-neg (inf true) = refl
+neg-neg (inf false) = refl
+neg-neg (fin true m e) = refl
+neg-neg (fin false m e) = refl
 
 neg-odd : (d : ℕ) (s : Bool) (q k l : ℕ) → neg (odd d s q k l) ≡ odd d (not s) q k l
 unfolding neg odd

@@ -11,7 +11,7 @@ use sums::bit;
 use sums::factorial_sum;
 ghost use mathlib.Core.Path.{_≡_};
 ghost use mathlib.Core.Bool.{cond};
-ghost use Prim.Native.Nat.{_≤_};
+ghost use Prim.Native.Nat.{_+_, _*_, _≤_};
 ghost use Rattle.trigonometry.specs.Trigonometry.{within-turn, quarters, rest, sine-sum, cosine-sum, sine-at, quarters-of, rest-of, sine, cosine, tangent};
 
 fn within_turn(z: f64) -> f64
@@ -35,16 +35,25 @@ fn rest(z: f64, k: u32) -> f64
     (z - (k as f64) * FRAC_PI_2) - (k as f64) * LO
 }
 
+fn sine_sum(r: f64) -> f64
+    ensures { λ s. ⌜ s ≡ sine-sum r ⌝ }
+{
+    let w = r * r;
+    r + (r * w) * factorial_sum(true, w)
+}
+
+fn cosine_sum(r: f64) -> f64
+    ensures { λ s. ⌜ s ≡ cosine-sum r ⌝ }
+{
+    let w = r * r;
+    1.0 + w * factorial_sum(false, w)
+}
+
 // Only the sum that is wanted: sine's where `even`, else cosine's.
 fn series(even: bool, r: f64) -> f64
     ensures { λ s. ⌜ s ≡ cond even (sine-sum r) (cosine-sum r) ⌝ }
 {
-    let w = r * r;
-    if even {
-        r + (r * w) * factorial_sum(true, w)
-    } else {
-        1.0 + w * factorial_sum(false, w)
-    }
+    if even { sine_sum(r) } else { cosine_sum(r) }
 }
 
 fn sine_at(k: u32, r: f64) -> f64
@@ -98,16 +107,28 @@ pub struct SinCos {
     pub cos: f64,
 }
 
+// Both sums are wanted, and each stands at a place that the quarter turns say: nothing is left to guess. Half a turn more
+// changes the sign.
+fn turned(k: u32, half: u32, r: f64) -> SinCos
+    requires { ⌜ (k ≤ 4) × (half ≤ 1) ⌝ }
+    ensures { λ q. ⌜ (q .sin ≡ sine-at (k + 2 * half) r) × (q .cos ≡ sine-at (k + 1) r) ⌝ }
+{
+    let s = sine_sum(r);
+    let c = cosine_sum(r);
+    let t = [s, c, -s, -c];
+    SinCos {
+        sin: t[((k + 2 * half) % 4) as usize],
+        cos: t[((k + 1) % 4) as usize],
+    }
+}
+
 // Sine and cosine of one angle, which is reduced once.
 pub fn sin_cos(x: f64) -> SinCos
     ensures { λ r. ⌜ (r .sin ≡ sine x) × (r .cos ≡ cosine x) ⌝ }
 {
     if is_finite(x) {
         let q = reduced(x);
-        let s = sine_at(q.k, q.r);
-        let sin = pick(is_negative(x), -s, s);
-        let cos = sine_at(q.k + 1, q.r);
-        SinCos { sin, cos }
+        turned(q.k, bit(is_negative(x)), q.r)
     } else {
         let sin = nan();
         let cos = nan();
