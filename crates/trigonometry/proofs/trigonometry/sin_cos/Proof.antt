@@ -15,7 +15,7 @@ returns c =
     let x = f .before .before .args .x in
     rw (← f .before .is-finite .ensures, f .if1 .taken) (
       c .turned .ensures .0
-      ∙ rw (half .bit .ensures .0, ← half .before .is-negative .ensures, q .reduced .ensures .0, q .reduced .ensures .1) (half-more (half .before .is-negative .result) (quarters-of x) (rest-of x)),
+          ∙ rw (half .bit .ensures .0, ← half .before .is-negative .ensures, q .reduced .ensures .0, q .reduced .ensures .1) (half-more (half .before .is-negative .result) (quarters-of x) (rest-of x)),
       c .turned .ensures .1 ∙ rw (q .reduced .ensures .0, q .reduced .ensures .1) (quarter-more (quarters-of x) (rest-of x)),
     )
 
