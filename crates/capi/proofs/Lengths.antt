@@ -1,7 +1,7 @@
 -- What the test of the lengths says, and what the columns then hold.
 use Prim.Native.Nat.{ℕ}
 use mathlib.Core.Path.{_≡_, refl}
-use mathlib.Core.Bool.{Bool, true, false, _&&_}
+use mathlib.Core.Bool.{Bool, true, false, _&&_, and-eq-true-iff}
 use mathlib.Core.List.{List, map}
 use borrow.Author.Tests.{eqb-true}
 use lib.Dec.{eqb}
@@ -11,17 +11,12 @@ use Rattle.projection.specs.declared.Answer.{Answer}
 use Rattle.projection.specs.Results.{number, first-result, second-result}
 use Rattle.capi.specs.Columns.{each, equal-lengths, Column}
 
-both : (a b : Bool) → (a && b) ≡ true → (a ≡ true) × (b ≡ true)
-both true b h = (refl, h)
-both false true h = (h, refl)
-both false false h = (h, h)
-
 module _ (us vs ps qs : List Float) (ns : List ℕ) where
   pub one-length : equal-lengths us vs ps qs ns ≡ true → (length vs ≡ length us) × (length ps ≡ length us) × (length qs ≡ length us) × (length ns ≡ length us)
   one-length h =
-      let d = both _ (eqb (length ns) (length us)) h in
-      let c = both _ (eqb (length qs) (length us)) (d .0) in
-      let b = both (eqb (length vs) (length us)) (eqb (length ps) (length us)) (c .0) in
+      let d = and-eq-true-iff _ (eqb (length ns) (length us)) .0 h in
+      let c = and-eq-true-iff _ (eqb (length qs) (length us)) .0 (d .0) in
+      let b = and-eq-true-iff (eqb (length vs) (length us)) (eqb (length ps) (length us)) .0 (c .0) in
       (eqb-true _ _ (b .0), eqb-true _ _ (b .1), eqb-true _ _ (c .1), eqb-true _ _ (d .1))
 
   module _ (call : Float → Float → Answer) where

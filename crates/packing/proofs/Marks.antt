@@ -1,7 +1,7 @@
 -- What a mark at place 0 says.
 use Prim.Native.Nat.{ℕ, _<_}
 use mathlib.Core.Path.{_≡_, refl, sym, _∙_, subst}
-use mathlib.Core.Bool.{Bool, true, false, not, _&&_}
+use mathlib.Core.Bool.{Bool, true, false, not, _&&_, and-eq-true-iff}
 use mathlib.Core.List.{List}
 use native.Mathlib.Omega.{arith}
 use native.Mathlib.Nat.{mod-eq-of-lt}
@@ -21,13 +21,8 @@ use Rattle.guam_projection.specs.declared.GuamProjection.{GuamProjection}
 use Rattle.kinds.specs.declared.Built.the-variants.{Lambert, Albers, Equal, Cassini, Polyconic, Guam, Refused}
 use Rattle.packing.specs.Packing.{at, lambert-of, albers-of, equal-earth-of, cassini-of, polyconic-of, guam-of, refusal-of, marked, built-of}
 
-pub both : (a b : Bool) → (a && b) ≡ true → (a ≡ true) × (b ≡ true)
-both true b h = (refl, h)
-both false true h = (h, refl)
-both false false h = (h, h)
-
 pub a-byte : (mark : ℕ) → (ltb 0 mark && ltb mark 256) ≡ true → Fits w8 mark
-a-byte mark h = record { fits = ltb-true mark 256 (both (ltb 0 mark) (ltb mark 256) h .1) }
+a-byte mark h = record { fits = ltb-true mark 256 (and-eq-true-iff (ltb 0 mark) (ltb mark 256) .0 h .1) }
 
 pub lambert-marked : (l : List Float) (p : LambertAzimuthalEqualArea) → at l 0 ≡ f64 332 → lambert-of l ≡ p → built-of l ≡ Lambert p
 unfolding built-of marked toBits ofBits

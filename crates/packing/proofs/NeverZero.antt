@@ -1,7 +1,7 @@
 -- No numbers hold a refusal by 0.
 use Prim.Native.Nat.{ℕ, _<_}
 use mathlib.Core.Path.{_≡_, refl}
-use mathlib.Core.Bool.{Bool, true, false, cond, _&&_}
+use mathlib.Core.Bool.{Bool, true, false, cond, _&&_, and-eq-true-iff}
 use mathlib.Core.List.{List}
 use native.Mathlib.Omega.{arith}
 use borrow.Author.Tests.{ltb-true}
@@ -11,14 +11,13 @@ use Rattle.refusals.specs.Refusals.{LINE-FORM}
 use Rattle.projection.proofs.NeverZero.{NeverZero, refusal-never-zero, cond-never-zero}
 use Rattle.kinds.specs.declared.Built.the-variants.{Refused}
 use Rattle.packing.specs.Packing.{at, refusal-of, marked, built-of, unpacked}
-use Rattle.packing.proofs.Marks.{both}
 
 above-zero : (mark : ℕ) → 0 < refusal-of mark
 unfolding refusal-of
 above-zero mark = go (ltb 0 mark && ltb mark 256) refl
   where
     go : (b : Bool) → (ltb 0 mark && ltb mark 256) ≡ b → 0 < cond b mark LINE-FORM
-    go true e = ltb-true 0 mark (both (ltb 0 mark) (ltb mark 256) e .0)
+    go true e = ltb-true 0 mark (and-eq-true-iff (ltb 0 mark) (ltb mark 256) .0 e .0)
     go false e = omega arith
 
 marked-never-zero : (mark : ℕ) (l : List Float) → NeverZero Refused (marked mark l)
