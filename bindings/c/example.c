@@ -1,7 +1,8 @@
 /*
  * IOGP 7-2's Cassini-Soldner example, Trinidad 1903 / Trinidad Grid, in Clarke's links: a projection that is built once, a
- * point forward and back, and a small column with a refused point in it; then projections that are refused, and a sheet.
- * Checks its own answers: the exit status is 0 if all are right. It is C89, and C++ too.
+ * point forward and back, and a small column with a refused point in it; then projections that are refused, an area of use
+ * across the 180 degree line, and a sheet. Checks its own answers: the exit status is 0 if all are right. It is C89, and C++
+ * too.
  */
 #include "lenthuc.h"
 
@@ -13,7 +14,7 @@
 static const double pi = 3.14159265358979323846;
 
 static struct lenthuc_settings settings;
-static struct lenthuc_projection trinidad;
+static struct lenthuc_projection trinidad, office, everywhere;
 
 static int wrong = 0;
 
@@ -172,9 +173,96 @@ static void refused_projections(void)
     printf("the kind c: %s\n", lenthuc_words(number));
     check(number == LENTHUC_LINE_FORM && all_refused(&refused, number), "a letter that names no kind");
     memset(&nothing, 0, sizeof nothing);
-    check(all_refused(&nothing, LENTHUC_LINE_FORM), "31 zeros");
+    check(all_refused(&nothing, LENTHUC_LINE_FORM), "36 zeros");
     refused = trinidad;
     check(!all_refused(&refused, LENTHUC_LINE_FORM), "a copy of a built projection");
+}
+
+/* A map about the 180 degree line for an office that spans it, from 176 E to 178 W: the area's west is above its east. */
+static void an_area(void)
+{
+    struct lenthuc_settings about_180 = {6378137.0, 1 / 298.257223563, 0.0, 0.0, 0.0, 0.0, 0.0, 0.0};
+    struct lenthuc_area area;
+    about_180.lon0 = pi;
+    about_180.lat0 = radians(-17.0);
+    area.west = lenthuc_normalize_longitude(radians(176.0));
+    area.east = lenthuc_normalize_longitude(radians(-178.0));
+    area.south = radians(-21.0);
+    area.north = radians(-12.0);
+    check(lenthuc_build_in_area(LENTHUC_LAMBERT, &about_180, &area, &office) == LENTHUC_ANSWERED, "the office's map");
+    check(lenthuc_build(LENTHUC_LAMBERT, &about_180, &everywhere) == LENTHUC_ANSWERED, "the same without an area");
+}
+
+/*
+ * Homes west of the line, east of it, and east of it by 181 degrees are inside, and answered as without an area. The last one
+ * is on the wrong coast. Back, by its easting and northing without an area, it is not handed out either.
+ */
+static void homes_of_the_area(void)
+{
+    static const double homes[POINTS][2] = {{178.5, -18.1}, {-179.9, -16.8}, {181.0, -17.2}, {-175.2, -20.5}};
+    static const double back[POINTS] = {178.5, -179.9, -179.0, 0.0};
+    double lon[POINTS], lat[POINTS], easting[POINTS], northing[POINTS];
+    uint8_t numbers[POINTS];
+    uint8_t said;
+    size_t i;
+    for (i = 0; i < POINTS; i++) {
+        lon[i] = radians(homes[i][0]);
+        lat[i] = radians(homes[i][1]);
+    }
+    said = lenthuc_forward_column(&office, lon, POINTS, lat, POINTS, easting, POINTS, northing, POINTS, numbers, POINTS);
+    check(said == LENTHUC_ANSWERED, "the homes");
+    for (i = 0; i < POINTS; i++) {
+        const int inside = i < 3;
+        double x, y, p, q;
+        printf("home %d, longitude %.1f: %s\n", (int)i, homes[i][0], lenthuc_words(numbers[i]));
+        check(numbers[i] == (inside ? LENTHUC_ANSWERED : LENTHUC_OUTSIDE_AREA), "a home's number");
+        check(lenthuc_forward(&office, lon[i], lat[i], &p, &q) == numbers[i], "a single home's number");
+        check(same(p, easting[i]) && same(q, northing[i]), "a single home");
+        check(lenthuc_forward(&everywhere, lon[i], lat[i], &x, &y) == LENTHUC_ANSWERED, "a home without an area");
+        check(inside ? same(p, x) && same(q, y) : is(p, 0, 0) && is(q, 0, 0), "a home's results");
+        check(lenthuc_inverse(&office, x, y, &p, &q) == numbers[i], "a home's number back");
+        check(-1e-8 < degrees(p) - back[i] && degrees(p) - back[i] < 1e-8, "a home back");
+    }
+}
+
+/* Normalising makes of 0.1 a number above it. A place's longitude is normalised, so an edge is to be too. */
+static void an_edge(void)
+{
+    struct lenthuc_area area = {-1.0, 0.1, -1.0, 1.0};
+    struct lenthuc_projection world;
+    double easting, northing;
+    uint8_t number;
+    check(is(lenthuc_normalize_longitude(0.1), 0x3fb99999, 0x999999a0), "0.1, normalised");
+    check(lenthuc_build_in_area(LENTHUC_EQUAL_EARTH, &settings, &area, &world) == LENTHUC_ANSWERED, "an area to 0.1");
+    number = lenthuc_forward(&world, 0.1, 0.5, &easting, &northing);
+    printf("longitude 0.1, edge 0.1: %s\n", lenthuc_words(number));
+    check(number == LENTHUC_OUTSIDE_AREA, "an edge as it is");
+    area.east = lenthuc_normalize_longitude(area.east);
+    check(same(lenthuc_normalize_longitude(area.east), area.east), "an edge, normalised twice");
+    check(lenthuc_build_in_area(LENTHUC_EQUAL_EARTH, &settings, &area, &world) == LENTHUC_ANSWERED, "a normalised edge");
+    number = lenthuc_forward(&world, 0.1, 0.5, &easting, &northing);
+    printf("longitude 0.1, edge 0.1, normalised: %s\n", lenthuc_words(number));
+    check(number == LENTHUC_ANSWERED, "a place on a normalised edge");
+}
+
+/* Refused as a projection is; the kind and the settings are looked at before the area. */
+static void refused_areas(void)
+{
+    static const struct lenthuc_area areas[3] = {{-3.2, 1.0, -1.0, 1.0}, {-1.0, 1.0, -1.6, 1.0}, {-1.0, 1.0, 0.5, 0.4}};
+    struct lenthuc_settings sphere = settings;
+    struct lenthuc_projection refused;
+    uint8_t number;
+    size_t i;
+    for (i = 0; i < 3; i++) {
+        number = lenthuc_build_in_area(LENTHUC_CASSINI, &settings, &areas[i], &refused);
+        check(number == LENTHUC_AREA_EDGES && all_refused(&refused, number), "a refused area");
+    }
+    printf("a south above its north: %s\n", lenthuc_words(number));
+    sphere.f = 0.0;
+    number = lenthuc_build_in_area(LENTHUC_GUAM, &sphere, &areas[0], &refused);
+    check(number == LENTHUC_SPHERE && all_refused(&refused, number), "Guam on a sphere in a refused area");
+    number = lenthuc_build_in_area('c', &settings, &areas[0], &refused);
+    check(number == LENTHUC_LINE_FORM && all_refused(&refused, number), "the kind c in a refused area");
 }
 
 /* Every number that a call may return has words of its own, and no other number has any. */
@@ -184,7 +272,7 @@ static void words(void)
     for (i = 0; i < 256; i++) {
         const char *said = lenthuc_words((uint8_t)i);
         count += said != NULL;
-        check((said != NULL) == (i == 0 || (2 <= i && i <= 24) || i == 255), "a number's words");
+        check((said != NULL) == (i == 0 || (2 <= i && i <= 26) || i == 255), "a number's words");
         for (j = 0; j < i; j++) {
             const char *other = lenthuc_words((uint8_t)j);
             check(said == NULL || other == NULL || strcmp(said, other) != 0, "words that come twice");
@@ -222,6 +310,10 @@ int main(void)
     a_column();
     unequal_lengths();
     refused_projections();
+    an_area();
+    homes_of_the_area();
+    an_edge();
+    refused_areas();
     words();
     a_sheet();
     if (!wrong) {

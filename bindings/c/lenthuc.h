@@ -24,8 +24,8 @@
  *
  * - Angles are radians. Lengths have the unit of the semi-major axis a.
  * - The number that a call returns is 0 where it answers. Otherwise it says why not: enum lenthuc_number, lenthuc_words.
- *   Where several refusals apply the first in the order of that list is given, but for the latitudes: lat0 is checked by 7
- *   and 8, then lat1, then lat2.
+ *   A projection's refusal comes before its points'. Else, where several apply, the first in the order of that list is
+ *   given, but for two: lat0 is checked by 7 and 8, then lat1, then lat2; and 26 comes before 18 and 19.
  * - Where a point is refused its results are +0. Where it is answered they are finite.
  * - A double may have any of its 2^64 patterns. All NaN count as one, signalling ones too.
  * - A call ends whatever it is given, allocates nothing, and keeps nothing: the same arguments have the same answer, bit for
@@ -42,7 +42,7 @@
  *   or clang links with -Ofast or -ffast-math does not keep subnormal numbers, and some answers are then others.
  *
  * 'Proved' below is by Rattle, for every input: the definitions are those of crates/NAME/specs, where NAME is capi, ellipsoid,
- * kinds, packing or sheet.
+ * kinds, packing, projection or sheet.
  */
 #ifndef LENTHUC_H
 #define LENTHUC_H
@@ -69,8 +69,8 @@
 extern "C" {
 #endif
 
-/* The version of this header, 0.2.0. The archive tells its own by lenthuc_version: where they differ, do not use it. */
-#define LENTHUC_VERSION 200
+/* The version of this header, 0.3.0. The archive tells its own by lenthuc_version: where they differ, do not use it. */
+#define LENTHUC_VERSION 300
 
 /* The version of the archive, as LENTHUC_VERSION. */
 uint32_t lenthuc_version(void);
@@ -112,6 +112,8 @@ enum lenthuc_number {
     LENTHUC_STEPS_USED_UP = 22,
     LENTHUC_INVERSE_RESULT = 23,
     LENTHUC_INVERSE_BEYOND = 24,
+    LENTHUC_AREA_EDGES = 25,
+    LENTHUC_OUTSIDE_AREA = 26,
     LENTHUC_UNEQUAL_LENGTHS = 255
 };
 
@@ -167,6 +169,10 @@ LENTHUC_INLINE const char *lenthuc_words(uint8_t number)
         return "the longitude or latitude worked out is not a finite number";
     case LENTHUC_INVERSE_BEYOND:
         return "the latitude worked out is beyond 90 degrees (pi/2 + 1e-12)";
+    case LENTHUC_AREA_EDGES:
+        return "the area of use has an edge that is not a finite number, a west or east beyond 180 degrees (pi), a south or north beyond 90 degrees (pi/2 + 1e-12), or a south above its north";
+    case LENTHUC_OUTSIDE_AREA:
+        return "the place lies outside the area of use";
     case LENTHUC_UNEQUAL_LENGTHS:
         return "the columns have unequal lengths: nothing is read or written";
     default:
@@ -196,16 +202,39 @@ struct lenthuc_settings {
 };
 
 /*
- * A built projection. Its numbers are for the functions below alone, and may change with the version. It may be copied, and
- * moved to other memory. No function writes it but lenthuc_build.
+ * An area of use, by its edges in radians. A projection that has one answers the places inside it, and no other. It lies
+ * between south and north, and from west eastwards to east. Its edges belong to it.
+ *
+ * - Where east is below west it crosses the 180 degree line: it holds the longitudes from west to pi, and from -pi to east.
+ *   Where west and east are equal it is one meridian.
+ * - -pi and pi are two numbers: an edge at -pi does not hold pi. From -pi to pi are all longitudes.
+ * - A latitude between pi/2 and pi/2 + 1e-12, which a projection takes as well, lies outside an area that ends at pi/2.
+ * - The longitude of a place is normalised before it is compared, and an edge is not. Normalising rounds: of 0.1 it makes
+ *   the number whose bits are 3fb99999999999a0, which is above 0.1. So the area from -1 to 0.1 does not hold the longitude
+ *   0.1, and one from -1 to lenthuc_normalize_longitude(0.1) does. Normalise west and east first; once is enough. Do so only
+ *   with what lies in [-pi, pi]: 0 and 2 pi, normalised, are one meridian.
  */
-struct lenthuc_projection {
-    double numbers[31];
+struct lenthuc_area {
+    double west, east, south, north;
 };
 
 /*
- * Builds a projection. Returns 0, or 2 to 15 but 3. A projection that was refused is filled too: it answers every point by the
- * number of its refusal, so a caller may leave the test to the first point.
+ * A longitude brought into [-pi, pi] by whole turns, as a place's is before an area is asked. Of a NaN and of an infinity: NaN.
+ * Proved: the result is that of the definition normalize-longitude.
+ */
+double lenthuc_normalize_longitude(double lon);
+
+/*
+ * A built projection. Its numbers are for the functions below alone, and may change with the version. It may be copied, and
+ * moved to other memory. No function writes it but lenthuc_build and lenthuc_build_in_area.
+ */
+struct lenthuc_projection {
+    double numbers[36];
+};
+
+/*
+ * Builds a projection that has no area of use. Returns 0, or 2 to 15 but 3. A projection that was refused is filled too: it
+ * answers every point by the number of its refusal, so a caller may leave the test to the first point.
  * Proved: the number is that of the projection's construction by the definition build, and what *projection then holds, by the
  * definition unpacked, is that construction.
  */
@@ -213,19 +242,31 @@ uint8_t lenthuc_build(uint8_t kind, const struct lenthuc_settings *settings,
                       struct lenthuc_projection *LENTHUC_RESTRICT projection);
 
 /*
- * The easting and northing of a longitude and latitude. Returns 0, or 16 to 19, or the number of the projection's refusal.
+ * Builds a projection that has an area of use. Returns 0, or 2 to 15 but 3, or 25. What is refused is filled as lenthuc_build
+ * fills it. A place inside the area has the same results, bit for bit, as without one.
+ * Proved: the number is that of the construction with the area by the definition build-in-area, and what *projection then
+ * holds, by the definition unpacked, is that construction.
+ */
+uint8_t lenthuc_build_in_area(uint8_t kind, const struct lenthuc_settings *settings, const struct lenthuc_area *area,
+                              struct lenthuc_projection *LENTHUC_RESTRICT projection);
+
+/*
+ * The easting and northing of a longitude and latitude. Returns 0, or 16 to 19, or the number of the projection's refusal;
+ * with an area also 26, after 17 and before 18.
  * Proved: the number and the results are those of the definition forward, bit for bit, for the projection that the numbers
- * hold by the definition unpacked. This is so of any numbers, whoever wrote them: those that hold no projection, as 31 zeros
- * do, give 2.
+ * hold by the definition unpacked. This is so of any numbers, whoever wrote them: those that hold no projection, as 36 zeros
+ * do, give 2. An area among them is not checked again, only compared: one that has a NaN edge holds no place.
  */
 uint8_t lenthuc_forward(const struct lenthuc_projection *projection, double lon, double lat,
                         double *LENTHUC_RESTRICT easting, double *LENTHUC_RESTRICT northing);
 
 /*
- * The longitude and latitude of an easting and northing. Returns 0, or 20 to 24, or the number of the projection's refusal.
+ * The longitude and latitude of an easting and northing. Returns 0, or 20 to 24, or the number of the projection's refusal;
+ * with an area also 26, after 24. Neither way is exact, so a place on an edge, taken forward and back, may come out beside it
+ * and get 26.
  * Proved: as for lenthuc_forward, by the definition inverse. And whatever is answered lies on the map, of any numbers: the
  * longitude is in [-pi, pi], normalising leaves it as it is, and it is within 2^-42 of the formula's own, up to whole turns;
- * the latitude is in [-pi/2 - 1e-12, pi/2 + 1e-12].
+ * the latitude is in [-pi/2 - 1e-12, pi/2 + 1e-12]; and, with an area, the place lies inside it.
  */
 uint8_t lenthuc_inverse(const struct lenthuc_projection *projection, double easting, double northing,
                         double *LENTHUC_RESTRICT lon, double *LENTHUC_RESTRICT lat);
@@ -259,7 +300,8 @@ uint8_t lenthuc_inverse_column(const struct lenthuc_projection *projection, cons
  * Answers a sheet, text for text: the README says what a sheet is. input and output have in and room bytes. Returns the length
  * of the answer, which stands at the output's start; every other byte of the output is as it was. An output that has less
  * than LENTHUC_SHEET_ROOM bytes is left as it is, and LENTHUC_SHEET_ROOM is returned, which is then more than room. A sheet
- * over the limit is answered by a line that says so, so no more than one byte over it need be handed in.
+ * over the limit is answered by a line that says so, so no more than one byte over it need be handed in. A sheet's
+ * projections have no area of use.
  * Proved: the output is that of the definition sheet-text, and the length is its length; or room is too little, and the output
  * is as it was. And whatever an inverse line answers lies on the map, as for lenthuc_inverse.
  */

@@ -9,8 +9,8 @@ use std::path::{Path, PathBuf};
 const FOLDER: &str = "LENTHUC_ARCHIVE";
 const ARCHIVE: &str = "libcapi.a";
 
-/// A function that archives of versions before 0.2.0 lack.
-const BUILD: &[u8] = b"lenthuc_build";
+/// A function that archives of versions before 0.3.0 lack.
+const NEWEST: &[u8] = b"lenthuc_build_in_area";
 
 fn main() {
     println!("cargo::rerun-if-changed=build.rs");
@@ -56,7 +56,7 @@ fn folder() -> Result<String, String> {
         ));
     };
     // Of this too a linker says only that a symbol is not there.
-    if !archive.windows(BUILD.len()).any(|part| part == BUILD) {
+    if !archive.windows(NEWEST.len()).any(|part| part == NEWEST) {
         return Err(format!(
             "the archive {ARCHIVE} in {shown} is older than this crate, {}: run `rt staticlib capi` \
              again at the top of Lenthuc's repository",

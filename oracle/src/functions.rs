@@ -161,7 +161,7 @@ pub const ELLIPSOID: [Function; 10] = [
 ];
 
 /// What the kinds share.
-pub const PARTS: [Function; 16] = [
+pub const PARTS: [Function; 17] = [
     part!(from_a_rf, 2, u64::from),
     part!(from_a_f, 2, u64::from),
     part!(validate_angle, 1, u64::from),
@@ -172,6 +172,13 @@ pub const PARTS: [Function; 16] = [
     part!(ensure_finite_xy, 2, u64::from),
     part!(ensure_finite_lon_lat, 2, u64::from),
     part!(normalize_longitude, 1, bits_of),
+    Function {
+        name: "lenthuc_normalize_longitude",
+        takes: Takes::Any(1),
+        tried: |a| bits_of(ours::lenthuc_normalize_longitude(f64_of(a[0]))),
+        expected: |a| bits_of(source::fixed::parts::normalize_longitude(f64_of(a[0]))),
+        platform: Some(|a| bits_of(source::platform::parts::normalize_longitude(f64_of(a[0])))),
+    },
     part!(authalic_q, 2, bits_of),
     part!(authalic_latitude, 2, bits_of),
     part!(geodetic_from_authalic, 2, bits_of),

@@ -1,7 +1,11 @@
 //! What the Rattle code is held against: document 01's fixed functions in Rust, written from 01
-//! alone, the source's own files with those functions and with the platform's, and what to try them
-//! on. No crate of a registry.
+//! alone, the source's own files with those functions and with the platform's, document 02's area of
+//! use over these, and what to try them on. No crate of a registry.
 
+pub mod area;
+pub mod area_cases;
+pub mod area_sample;
+pub mod areas;
 pub mod cases;
 pub mod damage;
 pub mod ellipsoids;

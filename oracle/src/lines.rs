@@ -9,7 +9,7 @@ use crate::source::fixed::door::{Projection, answer};
 use std::f64::consts::{FRAC_PI_2, FRAC_PI_4, PI, SQRT_2};
 
 /// What a line is like.
-#[derive(Clone, Copy)]
+#[derive(Clone, Copy, Debug, PartialEq)]
 pub enum Sort {
     Realistic,
     Edge,

@@ -1,6 +1,17 @@
 //! The Rattle functions, by the static libraries of crates/probe and, as users have them, crates/capi.
 
+use crate::area::{Area, AreaLine};
+use crate::fixed;
 use crate::line::{Answer, Columns, Line};
+
+/// A projection as the archive's callers keep it.
+type Numbers = [f64; 36];
+
+/// From this place on, whether it has an area, and the area's edges.
+const FLAG: usize = 31;
+
+/// What the flag is where it has one.
+const SET: f64 = 1.0;
 
 #[link(name = "probe", kind = "static")]
 unsafe extern "C" {
@@ -100,11 +111,18 @@ unsafe extern "C" {
 
 #[link(name = "capi", kind = "static")]
 unsafe extern "C" {
-    safe fn lenthuc_build(kind: u8, settings: &[f64; 8], projection: &mut [f64; 31]) -> u8;
-    safe fn lenthuc_forward(p: &[f64; 31], u: f64, v: f64, x: &mut f64, y: &mut f64) -> u8;
-    safe fn lenthuc_inverse(p: &[f64; 31], u: f64, v: f64, x: &mut f64, y: &mut f64) -> u8;
+    pub safe fn lenthuc_normalize_longitude(lon: f64) -> f64;
+    safe fn lenthuc_build(kind: u8, settings: &[f64; 8], projection: &mut Numbers) -> u8;
+    safe fn lenthuc_build_in_area(
+        kind: u8,
+        settings: &[f64; 8],
+        area: &Area,
+        projection: &mut Numbers,
+    ) -> u8;
+    safe fn lenthuc_forward(p: &Numbers, u: f64, v: f64, x: &mut f64, y: &mut f64) -> u8;
+    safe fn lenthuc_inverse(p: &Numbers, u: f64, v: f64, x: &mut f64, y: &mut f64) -> u8;
     fn lenthuc_forward_column(
-        projection: &[f64; 31],
+        projection: &Numbers,
         u: *const f64,
         us: usize,
         v: *const f64,
@@ -117,7 +135,7 @@ unsafe extern "C" {
         ns: usize,
     ) -> u8;
     fn lenthuc_inverse_column(
-        projection: &[f64; 31],
+        projection: &Numbers,
         u: *const f64,
         us: usize,
         v: *const f64,
@@ -132,16 +150,38 @@ unsafe extern "C" {
 }
 
 /// The projection of a line, and the number of its building.
-fn built(line: &Line) -> ([f64; 31], u8) {
-    let [a, f, lon0, lat0, lat1, lat2, fe, fn_, ..] = line.fields;
-    let mut projection = [f64::NAN; 31];
-    let settings = [a, f, lon0, lat0, lat1, lat2, fe, fn_];
-    let number = lenthuc_build(line.kind, &settings, &mut projection);
+fn built(line: &Line) -> (Numbers, u8) {
+    let mut projection = [f64::NAN; 36];
+    let number = lenthuc_build(line.kind, &settings(line), &mut projection);
+    (projection, number)
+}
+
+fn settings(line: &Line) -> [f64; 8] {
+    let [settings @ .., _, _] = line.fields;
+    settings
+}
+
+/// The same with its area.
+fn built_with(question: &AreaLine) -> (Numbers, u8) {
+    let AreaLine { line, area, handed } = question;
+    if *handed {
+        return handed_in(line, SET, area);
+    }
+    let mut projection = [f64::NAN; 36];
+    let number = lenthuc_build_in_area(line.kind, &settings(line), area, &mut projection);
+    (projection, number)
+}
+
+/// The projection of a line, to which a flag and an area are handed in.
+fn handed_in(line: &Line, flag: f64, area: &Area) -> (Numbers, u8) {
+    let (mut projection, number) = built(line);
+    projection[FLAG] = flag;
+    projection[FLAG + 1..].copy_from_slice(area);
     (projection, number)
 }
 
 /// One point by a projection.
-fn point(way: u8, projection: &[f64; 31], u: f64, v: f64, p: &mut f64, q: &mut f64) -> u8 {
+fn point(way: u8, projection: &Numbers, u: f64, v: f64, p: &mut f64, q: &mut f64) -> u8 {
     match way {
         b'F' => lenthuc_forward(projection, u, v, p, q),
         b'I' => lenthuc_inverse(projection, u, v, p, q),
@@ -151,8 +191,21 @@ fn point(way: u8, projection: &[f64; 31], u: f64, v: f64, p: &mut f64, q: &mut f
 
 /// The answer to a line.
 pub fn answer(line: &Line) -> Answer {
+    answer_by(built(line), line)
+}
+
+/// The answer to a line with an area.
+pub fn answer_with(question: &AreaLine) -> Answer {
+    answer_by(built_with(question), &question.line)
+}
+
+/// The same, handed in with any flag.
+pub fn answer_flagged(line: &Line, flag: f64, area: &Area) -> Answer {
+    answer_by(handed_in(line, flag, area), line)
+}
+
+fn answer_by((projection, refused): (Numbers, u8), line: &Line) -> Answer {
     let [.., u, v] = line.fields;
-    let (projection, refused) = built(line);
     let (mut p, mut q) = (f64::NAN, f64::NAN);
     let number = point(line.way, &projection, u, v, &mut p, &mut q);
     assert!(
@@ -161,6 +214,14 @@ pub fn answer(line: &Line) -> Answer {
     );
     let (p, q) = (p.to_bits(), q.to_bits());
     Answer { number, p, q }
+}
+
+/// Whether a projection that is built with an area has the numbers of one to which it is handed in.
+pub fn same_numbers(question: &AreaLine) -> bool {
+    let (projection, number) = built_with(question);
+    let (other, _) = handed_in(&question.line, SET, &question.area);
+    let same = |(x, y): (&f64, &f64)| fixed::bits_of(*x) == fixed::bits_of(*y);
+    number != 0 || projection.iter().zip(&other).all(same)
 }
 
 /// A column's points by one call each, the projection built once.
@@ -183,17 +244,25 @@ pub fn built_anew(line: &Line, u: &[f64], v: &[f64], filled: &mut Columns) {
 
 /// A column of points by one projection.
 pub fn column(line: &Line, u: &[f64], v: &[f64], filled: &mut Columns) {
-    let (projection, _) = built(line);
+    column_by(line.way, &built(line).0, u, v, filled);
+}
+
+/// The same with an area.
+pub fn column_with(question: &AreaLine, u: &[f64], v: &[f64], filled: &mut Columns) {
+    column_by(question.line.way, &built_with(question).0, u, v, filled);
+}
+
+fn column_by(way: u8, projection: &Numbers, u: &[f64], v: &[f64], filled: &mut Columns) {
     let Columns { p, q, numbers } = filled;
     let (us, vs, ps, qs, ns) = (u.len(), v.len(), p.len(), q.len(), numbers.len());
     let (u, v, numbers) = (u.as_ptr(), v.as_ptr(), numbers.as_mut_ptr());
     let (p, q) = (p.as_mut_ptr(), q.as_mut_ptr());
-    let column = match line.way {
+    let column = match way {
         b'F' => lenthuc_forward_column,
         b'I' => lenthuc_inverse_column,
         way => panic!("the way {way} is none"),
     };
     // SAFETY: it reads two slices and writes three others, each with its length.
-    let said = unsafe { column(&projection, u, us, v, vs, p, ps, q, qs, numbers, ns) };
+    let said = unsafe { column(projection, u, us, v, vs, p, ps, q, qs, numbers, ns) };
     assert_eq!(said, 0, "the columns have one length");
 }

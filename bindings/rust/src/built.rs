@@ -1,5 +1,6 @@
 //! A built projection.
 
+use crate::area::Area;
 use crate::outcome::{Outcome, unknown};
 use crate::raw::{self, Numbers, Way};
 use crate::refusal::{Answer, Refusal, UnequalLengths};
@@ -15,8 +16,24 @@ pub(crate) struct Built {
 
 impl Built {
     pub(crate) fn new(settings: Settings) -> Result<Self, Refusal> {
-        let (outcome, numbers) = raw::build(settings.kind as u8, &settings.ordered());
+        let area = settings.area.map(|area| area.ordered());
+        let (outcome, numbers) = raw::build(settings.kind as u8, &settings.ordered(), area);
         outcome.result().map(|()| Self { settings, numbers })
+    }
+
+    pub(crate) fn with_area(self, area: Area) -> Result<Self, Refusal> {
+        Self::new(Settings {
+            area: Some(area),
+            ..self.settings
+        })
+    }
+
+    pub(crate) fn without_area(self) -> Self {
+        let settings = Settings {
+            area: None,
+            ..self.settings
+        };
+        Self::new(settings).expect("the other settings were built before")
     }
 
     pub(crate) const fn settings(&self) -> &Settings {

@@ -1,5 +1,6 @@
 //! The types of projections.
 
+use crate::area::Area;
 use crate::built::Built;
 use crate::ellipsoid::Ellipsoid;
 use crate::outcome::Outcome;
@@ -10,7 +11,7 @@ use crate::settings::{Kind, Settings};
 use std::fmt;
 
 /// What a type has besides its constructors: what it was built of, with the latitudes that are
-/// named, and `Debug` and `Projection`.
+/// named, its area of use, and `Debug` and `Projection`.
 macro_rules! projection {
     ($name:ident: $($latitude:ident)*) => {
         impl $name {
@@ -44,6 +45,29 @@ macro_rules! projection {
             #[must_use]
             pub const fn false_northing(&self) -> f64 {
                 self.0.settings().false_northing
+            }
+
+            /// The area of use, as it was given. None where there is none.
+            #[must_use]
+            pub const fn area(&self) -> Option<Area> {
+                self.0.settings().area
+            }
+
+            /// The same projection with an area of use, in the place of one that it has. A point
+            /// outside the area is refused, by 26, both ways. One inside it has the answer, bit for bit,
+            /// that it has without an area.
+            ///
+            /// # Errors
+            ///
+            /// - 25, [`Refusal::AreaEdges`]
+            pub fn with_area(self, area: Area) -> Result<Self, Refusal> {
+                self.0.with_area(area).map(Self)
+            }
+
+            /// The same projection without an area of use.
+            #[must_use]
+            pub fn without_area(self) -> Self {
+                Self(self.0.without_area())
             }
         }
 
@@ -94,7 +118,7 @@ macro_rules! projection {
 /// other origin.
 ///
 /// A point is refused by number 16, 17, 18 or 19 [forward](Projection::forward), and by 20, 23 or 24
-/// [back](Projection::inverse).
+/// [back](Projection::inverse); with an [`Area`] also by 26, both ways.
 #[derive(Clone, Copy, PartialEq)]
 pub struct LambertAzimuthalEqualArea(Built);
 
@@ -157,7 +181,7 @@ projection!(LambertAzimuthalEqualArea: lat0);
 /// Albers equal-area conic (EPSG method 9822).
 ///
 /// A point is refused by number 16, 17 or 19 [forward](Projection::forward), and by 20, 22, 23 or 24
-/// [back](Projection::inverse).
+/// [back](Projection::inverse); with an [`Area`] also by 26, both ways.
 ///
 /// ```
 /// use lenthuc::{AlbersEqualArea, CLARKE1866, Projection, Refusal};
@@ -213,7 +237,7 @@ projection!(AlbersEqualArea: lat0 lat1 lat2);
 /// Equal Earth (EPSG method 1078).
 ///
 /// A point is refused by number 16, 17 or 19 [forward](Projection::forward), and by 20, 22, 23 or 24
-/// [back](Projection::inverse).
+/// [back](Projection::inverse); with an [`Area`] also by 26, both ways.
 #[derive(Clone, Copy, PartialEq)]
 pub struct EqualEarth(Built);
 
@@ -244,7 +268,7 @@ projection!(EqualEarth:);
 /// Cassini-Soldner (EPSG method 9806).
 ///
 /// A point is refused by number 16, 17 or 19 [forward](Projection::forward), and by 20, 23 or 24
-/// [back](Projection::inverse).
+/// [back](Projection::inverse); with an [`Area`] also by 26, both ways.
 #[derive(Clone, Copy, PartialEq)]
 pub struct CassiniSoldner(Built);
 
@@ -278,7 +302,7 @@ projection!(CassiniSoldner: lat0);
 /// American polyconic (EPSG method 9818).
 ///
 /// A point is refused by number 16, 17 or 19 [forward](Projection::forward), and by 20, 21, 22, 23 or
-/// 24 [back](Projection::inverse).
+/// 24 [back](Projection::inverse); with an [`Area`] also by 26, both ways.
 #[derive(Clone, Copy, PartialEq)]
 pub struct AmericanPolyconic(Built);
 
@@ -312,7 +336,7 @@ projection!(AmericanPolyconic: lat0);
 /// Guam projection (EPSG method 9831), for an island.
 ///
 /// A point is refused by number 16, 17 or 19 [forward](Projection::forward), and by 20, 23 or 24
-/// [back](Projection::inverse).
+/// [back](Projection::inverse); with an [`Area`] also by 26, both ways.
 #[derive(Clone, Copy, PartialEq)]
 pub struct GuamProjection(Built);
 

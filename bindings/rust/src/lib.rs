@@ -36,6 +36,36 @@
 //! [`Projection::forward_points`] and [`Projection::inverse_points`] take pairs and give a vector.
 //! All give the same answers, bit for bit.
 //!
+//! # An area of use
+//!
+//! A projection may have an [`Area`]: it then refuses the places outside, both ways, and answers those
+//! inside as it does without one. Any type takes it by
+//! [`with_area`](LambertAzimuthalEqualArea::with_area), and gives it up by
+//! [`without_area`](LambertAzimuthalEqualArea::without_area).
+//!
+//! ```
+//! use lenthuc::{Area, LambertAzimuthalEqualArea, Projection, Refusal, WGS84};
+//!
+//! // An office that spans the 180° line, from 176° E to 178° W.
+//! let [lon0, lat0] = [180.0, -17.0].map(f64::to_radians);
+//! let map = LambertAzimuthalEqualArea::new(WGS84, lon0, lat0, 0.0, 0.0)?;
+//! let office = map.with_area(Area::from_degrees(176.0, -178.0, -21.0, -12.0))?;
+//!
+//! // Homes on both sides of the line, and one on the wrong coast.
+//! assert_eq!(office.forward_degrees(178.5, -18.1), map.forward_degrees(178.5, -18.1));
+//! assert_eq!(office.forward_degrees(-179.9, -16.8), map.forward_degrees(-179.9, -16.8));
+//! assert_eq!(office.forward_degrees(-175.2, -20.5), Err(Refusal::OutsideArea));
+//!
+//! // Nor is the wrong coast handed out.
+//! let (easting, northing) = map.forward_degrees(-175.2, -20.5)?;
+//! assert_eq!(office.inverse(easting, northing), Err(Refusal::OutsideArea));
+//! # Ok::<(), Refusal>(())
+//! ```
+//!
+//! The longitude of a place is normalised before it is compared, which rounds it; an edge is compared
+//! as it is. So an edge that is not normalised may leave out the places on it: [`Area`] says more.
+//! [`Area::from_degrees`] normalises.
+//!
 //! # What to rely on
 //!
 //! - Any `f64` may be handed to any function, whatever its bits. Every call ends.
@@ -54,6 +84,7 @@
 
 #![deny(missing_docs, unsafe_code, unsafe_op_in_unsafe_fn)]
 
+mod area;
 mod built;
 mod ellipsoid;
 mod kinds;
@@ -92,6 +123,7 @@ mod readme {}
 #[cfg(doctest)]
 mod seal {}
 
+pub use area::{Area, normalize_longitude};
 pub use ellipsoid::{
     AIRY1830, BESSEL1841, CLARKE1866, Ellipsoid, GRS80, INTL1924, KRASSOWSKY, UNIT_SPHERE, WGS84,
     WGS84_SPHERE,

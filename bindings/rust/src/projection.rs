@@ -66,12 +66,14 @@ pub trait Projection: Sealed + Debug + Send + Sync {
     ///
     /// - 16, [`Refusal::ForwardInput`](crate::Refusal::ForwardInput)
     /// - 17, [`Refusal::ForwardBeyond`](crate::Refusal::ForwardBeyond)
+    /// - 26, [`Refusal::OutsideArea`](crate::Refusal::OutsideArea): with an [`Area`](crate::Area) alone
     /// - 18, [`Refusal::Antipode`](crate::Refusal::Antipode): Lambert alone
     /// - 19, [`Refusal::ForwardResult`](crate::Refusal::ForwardResult)
     fn forward(&self, lon: f64, lat: f64) -> Answer;
 
     /// The longitude and latitude of an easting and northing. They lie on the map: the longitude is
-    /// in [-π, π], and the latitude in [-π/2 - 1e-12, π/2 + 1e-12].
+    /// in [-π, π], and the latitude in [-π/2 - 1e-12, π/2 + 1e-12]. And they lie inside the area of
+    /// use, if there is one.
     ///
     /// # Errors
     ///
@@ -83,6 +85,7 @@ pub trait Projection: Sealed + Debug + Send + Sync {
     ///   polyconic
     /// - 23, [`Refusal::InverseResult`](crate::Refusal::InverseResult)
     /// - 24, [`Refusal::InverseBeyond`](crate::Refusal::InverseBeyond)
+    /// - 26, [`Refusal::OutsideArea`](crate::Refusal::OutsideArea): with an [`Area`](crate::Area) alone
     fn inverse(&self, easting: f64, northing: f64) -> Answer;
 
     /// Projects a column of points: each place of the three last columns takes what

@@ -6,8 +6,11 @@ use crate::outcome::Outcome;
 /// What a projection is built of: a, f, lon0, lat0, lat1, lat2, false easting, false northing.
 pub(crate) type Ordered = [f64; 8];
 
+/// An area of use: west, east, south, north.
+pub(crate) type Edges = [f64; 4];
+
 /// A built projection.
-pub(crate) type Numbers = [f64; 31];
+pub(crate) type Numbers = [f64; 36];
 
 /// The version of the archive that this crate is for, which is the crate's own.
 const VERSION: u32 = 10_000 * part(env!("CARGO_PKG_VERSION_MAJOR"))
@@ -33,7 +36,14 @@ unsafe extern "C" {
     safe fn lenthuc_version() -> u32;
     safe fn lenthuc_from_a_f(a: f64, f: f64) -> Outcome;
     safe fn lenthuc_from_a_rf(a: f64, rf: f64, f: &mut f64) -> Outcome;
+    safe fn lenthuc_normalize_longitude(lon: f64) -> f64;
     safe fn lenthuc_build(kind: u8, settings: &Ordered, projection: &mut Numbers) -> Outcome;
+    safe fn lenthuc_build_in_area(
+        kind: u8,
+        settings: &Ordered,
+        area: &Edges,
+        projection: &mut Numbers,
+    ) -> Outcome;
     safe fn lenthuc_forward(
         projection: &Numbers,
         lon: f64,
@@ -95,17 +105,25 @@ pub(crate) fn from_a_rf(a: f64, rf: f64) -> (Outcome, f64) {
     (outcome, f)
 }
 
-/// Builds the projection of a kind's letter. Another version's archive would mean other things by
-/// the same numbers, so this panics where it is linked.
-pub(crate) fn build(kind: u8, settings: &Ordered) -> (Outcome, Numbers) {
+/// A longitude in [-π, π], or NaN.
+pub(crate) fn normalize_longitude(lon: f64) -> f64 {
+    lenthuc_normalize_longitude(lon)
+}
+
+/// Builds the projection of a kind's letter, in an area of use if there is one. Another version's
+/// archive would mean other things by the same numbers, so this panics where it is linked.
+pub(crate) fn build(kind: u8, settings: &Ordered, area: Option<Edges>) -> (Outcome, Numbers) {
     let linked = lenthuc_version();
     assert!(
         linked == VERSION,
         "libcapi.a has the version {linked}, and lenthuc {} needs {VERSION}",
         env!("CARGO_PKG_VERSION")
     );
-    let mut projection = [0.0; 31];
-    let outcome = lenthuc_build(kind, settings, &mut projection);
+    let mut projection = [0.0; 36];
+    let outcome = match area {
+        None => lenthuc_build(kind, settings, &mut projection),
+        Some(area) => lenthuc_build_in_area(kind, settings, &area, &mut projection),
+    };
     (outcome, projection)
 }
 

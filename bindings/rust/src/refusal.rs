@@ -13,7 +13,7 @@ macro_rules! refusals {
         /// Why there is no answer.
         ///
         /// Where several apply, the first is given: by [`number`](Refusal::number), but latitude
-        /// setting by latitude setting.
+        /// setting by latitude setting, and 26 before 18 and 19.
         #[derive(Clone, Copy, Debug, PartialEq, Eq, Hash)]
         #[non_exhaustive]
         #[repr(u8)]
@@ -72,6 +72,8 @@ refusals! {
     StepsUsedUp = 22, "the steps of the inverse are used up before it settles (15 steps; polyconic 20)";
     InverseResult = 23, "the longitude or latitude worked out is not a finite number";
     InverseBeyond = 24, "the latitude worked out is beyond 90 degrees (pi/2 + 1e-12)";
+    AreaEdges = 25, "the area of use has an edge that is not a finite number, a west or east beyond 180 degrees (pi), a south or north beyond 90 degrees (pi/2 + 1e-12), or a south above its north";
+    OutsideArea = 26, "the place lies outside the area of use";
 }
 
 impl fmt::Display for Refusal {

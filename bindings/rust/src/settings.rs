@@ -1,5 +1,6 @@
 //! What a projection is built of.
 
+use crate::area::Area;
 use crate::ellipsoid::Ellipsoid;
 use crate::raw::Ordered;
 use std::fmt;
@@ -28,10 +29,11 @@ pub(crate) struct Settings {
     pub(crate) lat2: f64,
     pub(crate) false_easting: f64,
     pub(crate) false_northing: f64,
+    pub(crate) area: Option<Area>,
 }
 
 impl Settings {
-    /// The settings of a kind that has no parallels.
+    /// The settings of a kind that has no parallels, without an area of use.
     pub(crate) fn new(
         kind: Kind,
         ellipsoid: Ellipsoid,
@@ -47,10 +49,11 @@ impl Settings {
             lat2: 0.0,
             false_easting,
             false_northing,
+            area: None,
         }
     }
 
-    /// The numbers among them, in the archive's order.
+    /// The numbers among them but the area's, in the archive's order.
     pub(crate) fn ordered(&self) -> Ordered {
         [
             self.ellipsoid.semi_major_axis(),
@@ -65,7 +68,7 @@ impl Settings {
     }
 }
 
-/// The type's name, and those settings that its constructor takes.
+/// The type's name, those settings that its constructor takes, and the area of use if there is one.
 impl fmt::Debug for Settings {
     fn fmt(&self, f: &mut fmt::Formatter<'_>) -> fmt::Result {
         let mut shown = f.debug_struct(match self.kind {
@@ -89,6 +92,9 @@ impl fmt::Debug for Settings {
         shown.field("false_northing", &self.false_northing);
         if let Kind::Lambert | Kind::LambertSpherical = self.kind {
             shown.field("spherical", &(self.kind == Kind::LambertSpherical));
+        }
+        if let Some(area) = &self.area {
+            shown.field("area", area);
         }
         shown.finish()
     }

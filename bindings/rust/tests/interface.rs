@@ -1,23 +1,34 @@
 //! What `lenthuc.h` says and no type of the crate can ask: the version, any letter, projections that
-//! are refused or that no one built, results of refusals, pointers of length 0.
+//! are refused or that no one built, areas that no one checked, results of refusals, pointers of
+//! length 0.
 
 mod common;
 
-use common::{Bits, EARTH, KINDS, NANS, Random, Settings, next_up};
+use common::{BOUND, Bits, EARTH, Edges, KINDS, NANS, Random, Settings, holds, next_down, next_up};
 use std::f64::consts::{FRAC_PI_2, PI};
 use std::ptr;
 
 // The crate links the archive.
 use lenthuc as _;
 
-type Numbers = [f64; 31];
+type Numbers = [f64; 36];
+
+/// Where an area stands in the numbers: a flag, which is 1 where there is one, and then its edges.
+const FLAG: usize = 31;
 
 // SAFETY: the signatures are those of lenthuc.h; a reference is a pointer as it asks for.
 unsafe extern "C" {
     safe fn lenthuc_version() -> u32;
     safe fn lenthuc_from_a_f(a: f64, f: f64) -> u8;
     safe fn lenthuc_from_a_rf(a: f64, rf: f64, f: &mut f64) -> u8;
+    safe fn lenthuc_normalize_longitude(lon: f64) -> f64;
     safe fn lenthuc_build(kind: u8, settings: &Settings, projection: &mut Numbers) -> u8;
+    safe fn lenthuc_build_in_area(
+        kind: u8,
+        settings: &Settings,
+        area: &Edges,
+        projection: &mut Numbers,
+    ) -> u8;
     safe fn lenthuc_forward(map: &Numbers, u: f64, v: f64, p: &mut f64, q: &mut f64) -> u8;
     safe fn lenthuc_inverse(map: &Numbers, u: f64, v: f64, p: &mut f64, q: &mut f64) -> u8;
     fn lenthuc_forward_column(
@@ -58,9 +69,24 @@ const POINTS: [[(f64, f64); 3]; 2] = [
 
 /// What building says, and the projection, of which every number is NaN before.
 fn build(kind: u8, settings: Settings) -> (u8, Numbers) {
-    let mut map = [f64::NAN; 31];
+    let mut map = [f64::NAN; 36];
     let number = lenthuc_build(kind, &settings, &mut map);
     (number, map)
+}
+
+/// The same with an area.
+fn build_in(edges: Edges, kind: u8, settings: Settings) -> (u8, Numbers) {
+    let mut map = [f64::NAN; 36];
+    let number = lenthuc_build_in_area(kind, &settings, &edges, &mut map);
+    (number, map)
+}
+
+/// The numbers of a projection, with an area that no one checked.
+fn unchecked(map: &Numbers, edges: Edges) -> Numbers {
+    let mut map = *map;
+    map[FLAG] = 1.0;
+    map[FLAG + 1..].copy_from_slice(&edges);
+    map
 }
 
 /// What a projection answers to the points, which is the same by single calls, into places that hold
@@ -207,26 +233,192 @@ fn settings_without_use() {
     }
 }
 
-/// Numbers that hold no projection: 31 zeros, and others that no one built.
+/// Numbers that hold no projection: 36 zeros, and others that no one built.
 #[test]
 fn no_projection() {
     for x in [0.0, -0.0, 1.0, -1.0, f64::INFINITY, f64::NAN, f64::MAX] {
-        assert_eq!(answers(&[x; 31]), refused(LINE_FORM), "{x}");
+        assert_eq!(answers(&[x; 36]), refused(LINE_FORM), "{x}");
     }
+}
+
+/// An area is looked at last: after the letter, the settings and what is a kind's own; but before any
+/// point. What it is refused for answers every point.
+#[test]
+fn areas_in_their_order() {
+    let no_edges = [f64::NAN; 4];
+    let sound = [-PI, PI, -BOUND, BOUND];
+    let opposite = [1.0, 0.003, 0.0, 0.0, 0.5, -0.5, 0.0, 0.0];
+    let sphere = [1.0, 0.0, 0.0, 0.0, 0.0, 0.0, 0.0, 0.0];
+    for (kind, settings, edges, expected) in [
+        (b'x', EARTH, no_edges, LINE_FORM),
+        (b'E', [f64::NAN; 8], no_edges, 4),
+        (b'A', opposite, no_edges, 15),
+        (b'G', sphere, no_edges, 11),
+        (b'A', opposite, sound, 15),
+        (b'A', EARTH, no_edges, 25),
+        (b'G', EARTH, no_edges, 25),
+    ] {
+        let (number, map) = build_in(edges, kind, settings);
+        assert_eq!(number, expected);
+        assert_eq!(answers(&map), refused(expected));
+    }
+    for kind in KINDS {
+        let (number, map) = build_in(no_edges, kind, EARTH);
+        assert_eq!(number, 25);
+        assert_eq!(answers(&map), refused(25));
+        let (number, map) = build_in(sound, kind, EARTH);
+        assert_eq!(number, 0);
+        assert_eq!(answers(&map), answers(&build(kind, EARTH).1));
+    }
+}
+
+/// The flag is 1, or there is no area, whatever stands after it.
+#[test]
+fn no_area() {
+    for kind in KINDS {
+        let (_, built) = build(kind, EARTH);
+        let nowhere = unchecked(&built, [f64::NAN; 4]);
+        assert_ne!(answers(&nowhere), answers(&built));
+        for flag in [0.0, -0.0, -1.0, 2.0, next_up(1.0), next_down(1.0), f64::NAN] {
+            let mut map = nowhere;
+            map[FLAG] = flag;
+            assert_eq!(answers(&map), answers(&built), "{flag}");
+        }
+    }
+}
+
+/// What a built projection would be with an area is what it is with one that was handed in.
+#[test]
+fn areas_handed_in() {
+    for kind in KINDS {
+        let (_, built) = build(kind, EARTH);
+        for edges in [[0.1, 0.4, 0.5, 0.8], [0.4, 0.1, 0.5, 0.8]] {
+            let (number, map) = build_in(edges, kind, EARTH);
+            assert_eq!(number, 0);
+            let bits = |map: &Numbers| map.map(f64::to_bits);
+            assert_eq!(bits(&unchecked(&built, edges)), bits(&map));
+        }
+    }
+}
+
+/// An area that is handed in is only compared. A NaN edge holds no place, wherever it stands;
+/// infinities are numbers; a south above its north holds no place.
+#[test]
+fn areas_that_no_one_checked() {
+    let (_, built) = build(b'E', EARTH);
+    let forward = |edges, lon, lat| {
+        let (mut x, mut y) = (f64::NAN, f64::NAN);
+        lenthuc_forward(&unchecked(&built, edges), lon, lat, &mut x, &mut y)
+    };
+    let sound = [-1.0, 1.0, -1.0, 1.0];
+    assert_eq!(forward(sound, 0.0, 0.0), 0);
+    for nan in NANS.map(f64::from_bits) {
+        for place in 0..4 {
+            for crossing in [false, true] {
+                let mut edges = if crossing {
+                    [1.0, -1.0, -1.0, 1.0]
+                } else {
+                    sound
+                };
+                edges[place] = nan;
+                for lon in [0.0, 1.0, -1.0, 2.0, -2.0, PI, -PI] {
+                    assert_eq!(forward(edges, lon, 0.0), 26, "{edges:?} {lon}");
+                }
+            }
+        }
+    }
+    let (inf, minus_inf) = (f64::INFINITY, f64::NEG_INFINITY);
+    for lon in [0.0, PI, -PI, 1e300] {
+        assert_eq!(forward([minus_inf, inf, -1.0, 1.0], lon, 0.0), 0);
+        assert_eq!(forward([inf, minus_inf, -1.0, 1.0], lon, 0.0), 26);
+        assert_eq!(forward([-PI, PI, minus_inf, inf], lon, 1.5), 0);
+        assert_eq!(forward([-PI, PI, 0.1, -0.1], lon, 0.0), 26);
+        assert_eq!(forward([-9.0, 9.0, -9.0, 9.0], lon, 0.0), 0);
+    }
+    // 16 and 17 come before
+    assert_eq!(forward([f64::NAN; 4], f64::NAN, 0.0), 16);
+    assert_eq!(forward([f64::NAN; 4], 0.0, 2.0), 17);
+}
+
+/// Of any edges whatever, what is answered lies inside them, both ways, and what does not is 26.
+#[test]
+fn areas_of_any_numbers() {
+    let mut random = Random(18);
+    let odd = [
+        0.0,
+        PI,
+        -PI,
+        BOUND,
+        f64::INFINITY,
+        f64::NEG_INFINITY,
+        f64::NAN,
+    ];
+    for kind in KINDS {
+        let (_, built) = build(kind, EARTH);
+        let (mut inside, mut outside) = (0, 0);
+        for _ in 0..3000 {
+            let edges = [(); 4].map(|()| match random.bits() % 8 {
+                0 => f64::from_bits(random.bits()),
+                1 => odd[random.bits() as usize % odd.len()],
+                _ => random.within(2.0),
+            });
+            let map = unchecked(&built, edges);
+            let (lon, lat) = (random.within(2.0), random.within(1.0));
+            let (mut x, mut y, mut p, mut q) = (f64::NAN, f64::NAN, f64::NAN, f64::NAN);
+            assert_eq!(lenthuc_forward(&built, lon, lat, &mut x, &mut y), 0);
+            let number = lenthuc_forward(&map, lon, lat, &mut p, &mut q);
+            let expected = match holds(edges, lon, lat) {
+                true => (0, x.to_bits(), y.to_bits()),
+                false => (26, 0, 0),
+            };
+            assert_eq!((number, p.to_bits(), q.to_bits()), expected, "{edges:?}");
+            let without = lenthuc_inverse(&built, x, y, &mut p, &mut q);
+            let place = (p, q);
+            let number = lenthuc_inverse(&map, x, y, &mut p, &mut q);
+            let expected = match without == 0 && !holds(edges, place.0, place.1) {
+                true => (26, 0, 0),
+                false => (without, place.0.to_bits(), place.1.to_bits()),
+            };
+            assert_eq!((number, p.to_bits(), q.to_bits()), expected, "{edges:?}");
+            inside += usize::from(number == 0);
+            outside += usize::from(number == 26);
+        }
+        assert!(inside > 100 && outside > 100, "{kind} {inside} {outside}");
+    }
+}
+
+/// The header's example of an edge that is not normalised.
+#[test]
+fn normalising() {
+    assert_eq!(
+        lenthuc_normalize_longitude(0.1).to_bits(),
+        0x3fb9_9999_9999_99a0
+    );
+    assert!(lenthuc_normalize_longitude(f64::INFINITY).is_nan());
 }
 
 /// A built projection may be copied to other memory, and built over another.
 #[test]
 fn copies_and_second_buildings() {
-    let mut map = [f64::NAN; 31];
+    let mut map = [f64::NAN; 36];
     for kind in KINDS {
         for settings in [EARTH, [f64::NAN; 8]] {
-            let number = lenthuc_build(kind, &settings, &mut map);
-            let (first, fresh) = build(kind, settings);
-            assert_eq!(number, first);
-            assert_eq!(map.map(f64::to_bits), fresh.map(f64::to_bits));
-            let copy = Box::new(map);
-            assert_eq!(answers(&copy), answers(&fresh));
+            for edges in [None, Some([0.4, 0.1, 0.5, 0.8]), Some([f64::NAN; 4]), None] {
+                let (number, (first, fresh)) = match edges {
+                    None => (
+                        lenthuc_build(kind, &settings, &mut map),
+                        build(kind, settings),
+                    ),
+                    Some(edges) => (
+                        lenthuc_build_in_area(kind, &settings, &edges, &mut map),
+                        build_in(edges, kind, settings),
+                    ),
+                };
+                assert_eq!(number, first);
+                assert_eq!(map.map(f64::to_bits), fresh.map(f64::to_bits));
+                let copy = Box::new(map);
+                assert_eq!(answers(&copy), answers(&fresh));
+            }
         }
     }
 }
@@ -235,10 +427,12 @@ fn copies_and_second_buildings() {
 #[test]
 fn damaged_projections() {
     let mut random = Random(5);
-    let bound = FRAC_PI_2 + 1e-12;
-    for kind in KINDS {
-        let (_, built) = build(kind, EARTH);
-        for place in 0..31 {
+    let edges = [0.4, 0.1, 0.5, 0.8];
+    let maps = KINDS
+        .into_iter()
+        .flat_map(|kind| [build(kind, EARTH), build_in(edges, kind, EARTH)]);
+    for (_, built) in maps {
+        for place in 0..36 {
             let was = built[place];
             let nans = NANS.into_iter().map(f64::from_bits);
             let near = [0.0, next_up(0.0), -was, next_up(was.abs()), f64::INFINITY];
@@ -255,8 +449,8 @@ fn damaged_projections() {
                 for (_, lon, lat) in back {
                     let (lon, lat) = (f64::from_bits(lon), f64::from_bits(lat));
                     assert!(
-                        lon.abs() <= PI && lat.abs() <= bound,
-                        "{kind} {place} {x:e}"
+                        lon.abs() <= PI && lat.abs() <= BOUND,
+                        "{built:?} {place} {x:e}"
                     );
                 }
             }

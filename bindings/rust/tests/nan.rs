@@ -2,7 +2,7 @@
 
 mod common;
 
-use common::{EARTH, KINDS, NANS, WAYS, build, project};
+use common::{EARTH, KINDS, NANS, WAYS, build, build_in, project};
 use lenthuc::{Ellipsoid, Refusal};
 
 /// The numbers that are not finite.
@@ -56,17 +56,34 @@ fn of_the_settings() {
 }
 
 #[test]
+fn of_an_area() {
+    for kind in KINDS {
+        for place in 0..4 {
+            for x in not_finite() {
+                let mut edges = [-1.0, 1.0, -1.0, 1.0];
+                edges[place] = x;
+                let refused = build_in(edges, kind, EARTH).err();
+                assert_eq!(refused, Some(Refusal::AreaEdges), "{kind} {place}");
+            }
+        }
+    }
+}
+
+#[test]
 fn of_a_point() {
     for kind in KINDS {
         let map = build(kind, EARTH).expect("a map of the Earth");
+        let in_area = build_in([2.0, 3.0, -1.0, -0.5], kind, EARTH).expect("an area");
         for (way, refusal) in WAYS
             .into_iter()
             .zip([Refusal::ForwardInput, Refusal::InverseInput])
         {
-            for x in not_finite() {
-                assert_eq!(project(&*map, way, x, 0.1), Err(refusal));
-                assert_eq!(project(&*map, way, 0.1, x), Err(refusal));
-                assert_eq!(project(&*map, way, x, x), Err(refusal));
+            for map in [&*map, &*in_area] {
+                for x in not_finite() {
+                    assert_eq!(project(map, way, x, 0.1), Err(refusal));
+                    assert_eq!(project(map, way, 0.1, x), Err(refusal));
+                    assert_eq!(project(map, way, x, x), Err(refusal));
+                }
             }
         }
     }

@@ -2,7 +2,7 @@
 
 mod common;
 
-use common::{EARTH, KINDS, Random, Settings, WAYS, build, next_up, project};
+use common::{EARTH, KINDS, Random, Settings, WAYS, build, build_in, next_up, project};
 use lenthuc::{Ellipsoid, Refusal, UnequalLengths};
 use std::collections::HashSet;
 use std::error::Error;
@@ -144,7 +144,22 @@ fn of_points() {
     }
 }
 
-/// Each kind refuses by the numbers that its documents list, and by no others.
+#[test]
+fn of_areas() {
+    for kind in KINDS {
+        let refused = build_in([-1.0, 1.0, 0.5, -0.5], kind, EARTH).err();
+        assert_eq!(refused, Some(Refusal::AreaEdges));
+        let map = build_in([0.2, 0.4, 0.6, 0.8], kind, EARTH).expect("an area");
+        assert!(map.forward(0.3, 0.7).is_ok());
+        assert_eq!(map.forward(0.5, 0.7), Err(Refusal::OutsideArea));
+        let everywhere = build(kind, EARTH).expect("a map of the Earth");
+        let (x, y) = everywhere.forward(0.5, 0.7).expect("a point");
+        assert_eq!(map.inverse(x, y), Err(Refusal::OutsideArea));
+    }
+}
+
+/// Each kind refuses by the numbers that its documents list, and by no others: with an area by 25 and 26
+/// too, and without one never.
 #[test]
 fn of_each_kind_alone() {
     let mut random = Random(8);
@@ -172,40 +187,50 @@ fn of_each_kind_alone() {
                     *setting = f64::from_bits(random.bits());
                 }
             }
-            let map = match build(kind, settings) {
+            let edges = [(); 4].map(|()| random.within(1.7));
+            let has_area = random.bits() % 2 == 0;
+            let built = match has_area {
+                true => build_in(edges, kind, settings),
+                false => build(kind, settings),
+            };
+            let map = match built {
                 Ok(map) => map,
                 Err(refusal) => {
-                    assert!(building.contains(&refusal.number()), "{kind} {refusal:?}");
+                    let known = building.contains(&refusal.number());
+                    let of_the_area = has_area && refusal == Refusal::AreaEdges;
+                    assert!(known || of_the_area, "{kind} {refusal:?}");
                     continue;
                 }
             };
             for (way, numbers) in WAYS.into_iter().zip([forward, inverse]) {
                 let (u, v) = (random.input(way), random.input(way));
                 if let Err(refusal) = project(&*map, way, u, v) {
-                    assert!(numbers.contains(&refusal.number()), "{map:?} {refusal:?}");
+                    let known = numbers.contains(&refusal.number());
+                    let of_the_area = has_area && refusal == Refusal::OutsideArea;
+                    assert!(known || of_the_area, "{map:?} {refusal:?}");
                 }
             }
         }
     }
 }
 
-/// Numbers name refusals and refusals have numbers, 3 to 24, and no other number is one.
+/// Numbers name refusals and refusals have numbers, 3 to 26, and no other number is one.
 #[test]
 fn by_number() {
     for number in 0..=u8::MAX {
         let named = Refusal::from_number(number);
-        assert_eq!(named.is_some(), (3..=24).contains(&number), "{number}");
+        assert_eq!(named.is_some(), (3..=26).contains(&number), "{number}");
         assert_eq!(named.map(Refusal::number), named.map(|_| number));
     }
 }
 
 #[test]
 fn as_errors() {
-    let messages: HashSet<_> = (3..=24)
+    let messages: HashSet<_> = (3..=26)
         .filter_map(Refusal::from_number)
         .map(|refusal| refusal.to_string())
         .collect();
-    assert_eq!(messages.len(), 22, "each has its own message");
+    assert_eq!(messages.len(), 24, "each has its own message");
     assert!(messages.iter().all(|message| message.len() > 20));
     let boxed: Box<dyn Error + Send + Sync> = Box::new(Refusal::Antipode);
     assert_eq!(boxed.downcast_ref(), Some(&Refusal::Antipode));

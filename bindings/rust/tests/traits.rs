@@ -3,9 +3,9 @@
 
 mod common;
 
-use common::{EARTH, KINDS, Random, WAYS, bits, build, project};
+use common::{EARTH, KINDS, Random, WAYS, area, bits, build, build_in, project};
 use lenthuc::{
-    AlbersEqualArea, AmericanPolyconic, Answer, CassiniSoldner, Ellipsoid, EqualEarth,
+    AlbersEqualArea, AmericanPolyconic, Answer, Area, CassiniSoldner, Ellipsoid, EqualEarth,
     GuamProjection, LambertAzimuthalEqualArea, Outcome, Projection, Refusal, UnequalLengths, WGS84,
 };
 use std::error::Error;
@@ -80,6 +80,7 @@ fn types_are_plain_values() {
     fn shared<T: Send + Sync + Debug + ?Sized>() {}
     plain(WGS84);
     plain(Outcome::ANSWERED);
+    plain(Area::from_degrees(1.0, 2.0, 3.0, 4.0));
     plain(LambertAzimuthalEqualArea::new(WGS84, 0.0, 0.0, 0.0, 0.0));
     plain(AlbersEqualArea::new(WGS84, 0.0, 0.0, 0.5, 0.5, 0.0, 0.0));
     plain(EqualEarth::new(WGS84, 0.0, 0.0, 0.0));
@@ -120,7 +121,25 @@ fn equal_by_the_settings() {
     assert_ne!(albers(0.5, 0.6), albers(0.6, 0.5));
 }
 
-/// `Debug` has the settings that the constructor takes, by name, and nothing else.
+/// So does the area, each edge of it.
+#[test]
+fn equal_by_the_area() {
+    let world = EqualEarth::new(WGS84, 0.1, 2.0, 3.0).expect("the world");
+    let edges = [-0.4, 0.3, -0.2, 0.1];
+    let with = |edges| world.with_area(area(edges)).expect("an area");
+    assert_eq!(with(edges), with(edges));
+    assert_ne!(with(edges), world);
+    for place in 0..4 {
+        let mut other = edges;
+        other[place] += 1e-9;
+        assert_ne!(with(other), with(edges));
+    }
+    let other = EqualEarth::new(WGS84, 0.2, 2.0, 3.0).expect("another");
+    assert_ne!(other.with_area(area(edges)), Ok(with(edges)));
+}
+
+/// `Debug` has the settings that the constructor takes, by name, the area if there is one, and nothing
+/// else.
 #[test]
 fn shown_by_the_settings() {
     let sphere = "ellipsoid: Ellipsoid { a: 2.0, f: 0.5 }";
@@ -167,6 +186,10 @@ fn shown_by_the_settings() {
     ] {
         let map = build(kind, settings).expect("a map");
         assert_eq!(format!("{map:?}"), expected);
+        let with_area = build_in([0.5, -0.5, -1.0, 1.25], kind, settings).expect("an area");
+        let shown = ", area: Area { west: 0.5, east: -0.5, south: -1.0, north: 1.25 } }";
+        let start = expected.strip_suffix(" }").expect("an end");
+        assert_eq!(format!("{with_area:?}"), format!("{start}{shown}"));
         assert_eq!(format!("{:?}", &&*map), expected);
         assert_eq!(
             format!("{map:#?}").lines().next(),
@@ -180,14 +203,22 @@ fn shown_by_the_settings() {
 fn accessors() {
     let ellipsoid = Ellipsoid::from_a_f(7e6, 0.01).expect("an ellipsoid");
     let (lon0, lat0, lat1, lat2, fe, fn_) = (-0.0, -0.7, 0.5, -0.1, 1e6, -2e-300);
+    let given_area = area([0.1, -0.0, -1.5, 1.5]);
     macro_rules! given {
         ($map:expr $(, $latitude:ident)*) => {
             let map = $map.expect("a map");
-            assert_eq!(map.ellipsoid(), ellipsoid);
-            assert_eq!(map.lon0().to_bits(), f64::to_bits(lon0));
-            $(assert_eq!(map.$latitude(), $latitude);)*
-            assert_eq!(map.false_easting(), fe);
-            assert_eq!(map.false_northing(), fn_);
+            let with_area = map.with_area(given_area).expect("an area");
+            assert_eq!(map.area(), None);
+            let found = with_area.area().expect("an area");
+            assert_eq!(found, given_area);
+            assert_eq!(found.east.to_bits(), given_area.east.to_bits());
+            for map in [map, with_area, with_area.without_area()] {
+                assert_eq!(map.ellipsoid(), ellipsoid);
+                assert_eq!(map.lon0().to_bits(), f64::to_bits(lon0));
+                $(assert_eq!(map.$latitude(), $latitude);)*
+                assert_eq!(map.false_easting(), fe);
+                assert_eq!(map.false_northing(), fn_);
+            }
         };
     }
     let lambert = LambertAzimuthalEqualArea::new(ellipsoid, lon0, lat0, fe, fn_);

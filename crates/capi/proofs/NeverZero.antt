@@ -15,7 +15,7 @@ use Rattle.kinds.specs.declared.Built.the-variants as built
 use Rattle.kinds.proofs.NeverZero as of-kinds
 use Rattle.packing.specs.Packing.{at, unpacked}
 use Rattle.packing.proofs.NeverZero.{unpacked-never-zero}
-use Rattle.capi.specs.Building.{settings, build}
+use Rattle.capi.specs.Building.{settings, build, edges, build-in-area}
 
 pub build-never-zero : (kind : ℕ) (l : List Float) → NeverZero built.Refused (build kind l .built)
 unfolding build kinds.refused
@@ -24,6 +24,10 @@ build-never-zero kind l = go (is-kind kind)
     go : (b : Bool) → NeverZero built.Refused (cond b (kinds.build (kind-of kind) (at l 0) (at l 1) (settings l)) (kinds.refused LINE-FORM) .built)
     go true = of-kinds.build-never-zero (kind-of kind) (at l 0) (at l 1) (settings l)
     go false = λ n e z. let c : LINE-FORM ≡ n = cc in omega arith
+
+pub build-in-area-never-zero : (kind : ℕ) (l area : List Float) → NeverZero built.Refused (build-in-area kind l area .built)
+unfolding build-in-area
+build-in-area-never-zero kind l area = of-kinds.with-area-never-zero (build kind l) (edges area) (build-never-zero kind l)
 
 pub answer-never-zero : (way : Way) (l : List Float) (u v : Float) → NeverZero Refused (kinds.answer way (unpacked l) u v)
 answer-never-zero way l u v = of-kinds.answer-never-zero way (unpacked l) u v (unpacked-never-zero l)

@@ -1,4 +1,4 @@
--- Demand 3 of what is handed out: whatever an inverse point, or a place of a column, answers lies on the map.
+-- Demand 3 of what is handed out: whatever a place of an inverse column answers lies on the map, and inside the area of use.
 use mathlib.Core.List.{List, [], _∷_}
 use lib.Ieee.{Float}
 use Rattle.kinds.specs.Kinds as kinds

@@ -41,7 +41,7 @@ fn fill(
 // Each place of p, q and numbers takes what the single call gives for that place of u and v.
 fn column(
     way: Way,
-    projection: &[f64; 31],
+    projection: &[f64; 36],
     u: &[f64],
     v: &[f64],
     p: &mut [f64],
@@ -61,7 +61,7 @@ fn column(
 
 #[no_mangle]
 pub extern "C" fn lenthuc_forward_column(
-    projection: &[f64; 31],
+    projection: &[f64; 36],
     lon: &[f64],
     lat: &[f64],
     easting: &mut [f64],
@@ -81,10 +81,10 @@ pub extern "C" fn lenthuc_forward_column(
     )
 }
 
-// Whatever is answered lies on the map, place by place.
+// Whatever is answered lies on the map and inside the area of use, place by place.
 #[no_mangle]
 pub extern "C" fn lenthuc_inverse_column(
-    projection: &[f64; 31],
+    projection: &[f64; 36],
     easting: &[f64],
     northing: &[f64],
     lon: &mut [f64],

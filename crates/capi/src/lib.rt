@@ -2,6 +2,7 @@
 mod building;
 mod columns;
 mod ellipsoids;
+mod longitudes;
 mod points;
 mod sheets;
 mod version;

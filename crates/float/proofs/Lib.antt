@@ -39,4 +39,5 @@ pub mod Product
 pub mod Quotient
 pub mod Remainder
 pub mod Comparison
+pub mod UnitOrder
 pub mod SizeBound

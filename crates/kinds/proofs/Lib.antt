@@ -1,2 +1,3 @@
 pub mod Unused
+pub mod AreaOfUse
 pub mod NeverZero

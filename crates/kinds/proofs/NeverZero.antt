@@ -1,5 +1,5 @@
 -- A refusal's number is never 0, for whatever is built and answered here: a projection of any kind, and its points.
-use Prim.Native.Nat.{ℕ}
+use Prim.Native.Nat.{ℕ, zero, suc}
 use mathlib.Core.Path.{_≡_, refl, _∙_}
 use mathlib.Core.List.{List}
 use native.Mathlib.Omega.{arith}
@@ -9,10 +9,14 @@ use Rattle.ellipsoid.specs.declared.Ellipsoid.{Ellipsoid}
 use Rattle.ellipsoid.specs.declared.BuiltEllipsoid.{BuiltEllipsoid}
 use Rattle.ellipsoid.specs.declared.BuiltEllipsoid.the-variants as ellipsoid
 use Rattle.ellipsoid.proofs.NeverZero as ellipsoid-proofs
+use Rattle.projection.specs.AreaOfUse.{validate-area, validate-place}
+use Rattle.projection.specs.Checks.{or-else, guard, validate-lon-lat}
 use Rattle.projection.specs.Ends.{finish}
 use Rattle.projection.specs.declared.Answer.{Answer}
 use Rattle.projection.specs.declared.Answer.the-variants as answered
-use Rattle.projection.proofs.NeverZero.{NeverZero}
+use Rattle.projection.specs.declared.Area.{Area}
+use Rattle.projection.specs.declared.AreaOfUse.the-variants.{Inside}
+use Rattle.projection.proofs.NeverZero.{NeverZero, refusal-never-zero, cond-never-zero, guarded-never-zero, inside-never-zero}
 use Rattle.lambert_azimuthal_equal_area.specs.Inverse as laea
 use Rattle.lambert_azimuthal_equal_area.proofs.NeverZero as laea-proofs
 use Rattle.lambert_azimuthal_equal_area.specs.declared.BuiltLambertAzimuthalEqualArea.{BuiltLambertAzimuthalEqualArea}
@@ -43,7 +47,7 @@ use Rattle.letters.specs.declared.Kind.the-variants.{L, S, A, E, C, P, G}
 use Rattle.letters.specs.declared.Way.{Way}
 use Rattle.letters.specs.declared.Way.the-variants.{Forward, Inverse}
 use Rattle.letters.specs.declared.Settings.{Settings}
-use Rattle.kinds.specs.Kinds.{lambert, albers, equal-earth, cassini, polyconic, guam, made, new, forward, forward-of, formula, formula-of, inverse, answer, refused, on-ellipsoid, build, project}
+use Rattle.kinds.specs.Kinds.{lambert, albers, equal-earth, cassini, polyconic, guam, made, new, built-number, is-refused, forward, forward-of, formula-of, inverse-of, inverse, answer, refused, on-ellipsoid, build, project, with-area, build-in-area}
 use Rattle.kinds.specs.declared.Built.{Built}
 use Rattle.kinds.specs.declared.Built.the-variants.{Lambert, Albers, Equal, Cassini, Polyconic, Guam, Refused}
 use Rattle.kinds.specs.declared.Projection.{Projection}
@@ -112,6 +116,19 @@ build-never-zero kind a f s = go (from-a-f a f) (ellipsoid-proofs.from-a-f-never
     go (ellipsoid.Built e) h = new-never-zero kind e s
     go (ellipsoid.Refused k) h = handed ellipsoid.Refused Refused built-one k h
 
+-- the same with an area of use
+pub with-area-never-zero : (p : Projection) (area : Area) → NeverZero Refused (p .built) → NeverZero Refused (with-area p area .built)
+unfolding with-area refused guard
+with-area-never-zero p area h = go (or-else (built-number p) (validate-area area))
+  where
+    go : (n : ℕ) → NeverZero Refused (guard n refused (record { built = p .built; en = p .en; area = Inside area }) .built)
+    go zero = h
+    go (suc n) = refusal-never-zero Refused built-one (suc n) (omega arith)
+
+pub build-in-area-never-zero : (kind : Kind) (a f : Float) (s : Settings) (area : Area) → NeverZero Refused (build-in-area kind a f s area .built)
+unfolding build-in-area
+build-in-area-never-zero kind a f s area = with-area-never-zero (build kind a f s) area (build-never-zero kind a f s)
+
 -- ---- points, by any projection whose own refusal, if it is one, is not 0
 
 forward-never-zero : (b : Built) (en : List Float) (u v : Float) → NeverZero Refused b → NeverZero answered.Refused (forward-of b en u v)
@@ -124,20 +141,24 @@ forward-never-zero (Polyconic p) en u v h = poly-proofs.forward-never-zero p en 
 forward-never-zero (Guam p) en u v h = gm-proofs.forward-never-zero p en u v
 forward-never-zero (Refused k) en u v h = handed Refused answered.Refused answered-one k h
 
-inverse-never-zero : (p : Projection) (b : Built) (u v : Float) → p .built ≡ b → NeverZero Refused b → NeverZero answered.Refused (inverse p u v)
-unfolding inverse formula formula-of finish laea.inverse aea.inverse eqearth.inverse cass.inverse poly.inverse gm.inverse
-inverse-never-zero p (Lambert k) u v e h = rw e (laea-proofs.inverse-never-zero k u v)
-inverse-never-zero p (Albers k) u v e h = rw e (aea-proofs.inverse-never-zero k u v)
-inverse-never-zero p (Equal k) u v e h = rw e (eqearth-proofs.inverse-never-zero k u v)
-inverse-never-zero p (Cassini k) u v e h = rw e (cass-proofs.inverse-never-zero k u v)
-inverse-never-zero p (Polyconic k) u v e h = rw e (poly-proofs.inverse-never-zero k (p .en) u v)
-inverse-never-zero p (Guam k) u v e h = rw e (gm-proofs.inverse-never-zero k (p .en) u v)
-inverse-never-zero p (Refused k) u v e h = rw e (handed Refused answered.Refused answered-one k h)
+inverse-never-zero : (b : Built) (en : List Float) (u v : Float) → NeverZero Refused b → NeverZero answered.Refused (inverse-of b en u v)
+unfolding inverse-of formula-of finish laea.inverse aea.inverse eqearth.inverse cass.inverse poly.inverse gm.inverse
+inverse-never-zero (Lambert p) en u v h = laea-proofs.inverse-never-zero p u v
+inverse-never-zero (Albers p) en u v h = aea-proofs.inverse-never-zero p u v
+inverse-never-zero (Equal p) en u v h = eqearth-proofs.inverse-never-zero p u v
+inverse-never-zero (Cassini p) en u v h = cass-proofs.inverse-never-zero p u v
+inverse-never-zero (Polyconic p) en u v h = poly-proofs.inverse-never-zero p en u v
+inverse-never-zero (Guam p) en u v h = gm-proofs.inverse-never-zero p en u v
+inverse-never-zero (Refused k) en u v h = handed Refused answered.Refused answered-one k h
 
 pub answer-never-zero : (way : Way) (p : Projection) (u v : Float) → NeverZero Refused (p .built) → NeverZero answered.Refused (answer way p u v)
-unfolding answer forward
-answer-never-zero Forward p u v h = forward-never-zero (p .built) (p .en) u v h
-answer-never-zero Inverse p u v h = inverse-never-zero p (p .built) u v refl h
+unfolding answer forward inverse
+answer-never-zero Forward p u v h =
+    let by-kind = forward-never-zero (p .built) (p .en) u v h in
+    cond-never-zero answered.Refused (is-refused (p .built)) by-kind
+    (guarded-never-zero (or-else (validate-lon-lat u v) (validate-place (p .area) u v)) (forward-of (p .built) (p .en) u v) by-kind)
+answer-never-zero Inverse p u v h =
+    inside-never-zero (p .area) (inverse-of (p .built) (p .en) u v) (inverse-never-zero (p .built) (p .en) u v h)
 
 pub project-never-zero : (way : Way) (kind : Kind) (a f : Float) (s : Settings) (u v : Float) → NeverZero answered.Refused (project way kind a f s u v)
 unfolding project

@@ -1,5 +1,6 @@
--- The choice over the seven kinds, with the meridian numbers beside it.
+-- The choice over the seven kinds, with the meridian numbers and the area of use beside it.
 use Prim.Native.Nat.{ℕ}
+use mathlib.Core.Bool.{Bool, true, false, cond}
 use mathlib.Core.List.{List}
 use lib.ListN.{replicate}
 use lib.Ieee.{Float}
@@ -8,9 +9,13 @@ use Rattle.ellipsoid.specs.Ellipsoid.{from-a-f}
 use Rattle.ellipsoid.specs.declared.Ellipsoid.{Ellipsoid}
 use Rattle.ellipsoid.specs.declared.BuiltEllipsoid.{BuiltEllipsoid}
 use Rattle.ellipsoid.specs.declared.BuiltEllipsoid.the-variants as ellipsoid
+use Rattle.projection.specs.AreaOfUse.{validate-area, validate-place, ensure-inside}
+use Rattle.projection.specs.Checks.{or-else, guard, validate-lon-lat}
 use Rattle.projection.specs.Ends.{finish}
 use Rattle.projection.specs.declared.Answer.{Answer}
 use Rattle.projection.specs.declared.Answer.the-variants as answered
+use Rattle.projection.specs.declared.Area.{Area}
+use Rattle.projection.specs.declared.AreaOfUse.the-variants.{Anywhere, Inside}
 use Rattle.lambert_azimuthal_equal_area.specs.LambertAzimuthalEqualArea as laea
 use Rattle.lambert_azimuthal_equal_area.specs.Forward as laea-forward
 use Rattle.lambert_azimuthal_equal_area.specs.Inverse as laea-inverse
@@ -67,9 +72,9 @@ unfoldable pub guam : BuiltGuamProjection → Built
 guam (gm-built.Built p) = Guam p
 guam (gm-built.Refused n) = Refused n
 
--- a kind that has no meridian numbers
+-- a kind that has no meridian numbers; without an area of use, as every projection that is made here
 abbrev pub plain : Built → Projection
-plain built = record { built = built; en = replicate 13 +0 }
+plain built = record { built = built; en = replicate 13 +0; area = Anywhere }
 
 -- ---- a projection of a kind
 
@@ -80,13 +85,39 @@ made S e s = plain (lambert (laea.new-spherical e (s .lon0) (s .lat0) (s .«fals
 made A e s = plain (albers (aea.new e (s .lon0) (s .lat0) (s .lat1) (s .lat2) (s .«false_easting») (s .«false_northing»)))
 made E e s = plain (equal-earth (eqearth.new e (s .lon0) (s .«false_easting») (s .«false_northing»)))
 made C e s = plain (cassini (cass.new e (s .lon0) (s .lat0) (s .«false_easting») (s .«false_northing»)))
-made P e s = let q = poly.new e (s .lon0) (s .lat0) (s .«false_easting») (s .«false_northing») in record { built = polyconic (q .built); en = q .en }
-made G e s = let q = gm.new e (s .lon0) (s .lat0) (s .«false_easting») (s .«false_northing») in record { built = guam (q .built); en = q .en }
+made P e s = let q = poly.new e (s .lon0) (s .lat0) (s .«false_easting») (s .«false_northing») in record { built = polyconic (q .built); en = q .en; area = Anywhere }
+made G e s = let q = gm.new e (s .lon0) (s .lat0) (s .«false_easting») (s .«false_northing») in record { built = guam (q .built); en = q .en; area = Anywhere }
 
 unfoldable pub new : Kind → Ellipsoid → Settings → Projection
 unfolding made
 new k e s = made k e (used k s)
 
+-- 0 where it is built, or the number of its refusal
+unfoldable pub number-of : Built → ℕ
+number-of (Lambert p) = 0
+number-of (Albers p) = 0
+number-of (Equal p) = 0
+number-of (Cassini p) = 0
+number-of (Polyconic p) = 0
+number-of (Guam p) = 0
+number-of (Refused n) = n
+
+unfoldable pub built-number : Projection → ℕ
+unfolding number-of
+built-number p = number-of (p .built)
+
+unfoldable pub is-refused : Built → Bool
+is-refused (Lambert p) = false
+is-refused (Albers p) = false
+is-refused (Equal p) = false
+is-refused (Cassini p) = false
+is-refused (Polyconic p) = false
+is-refused (Guam p) = false
+is-refused (Refused n) = true
+
+-- ---- points
+
+-- forward by the kind alone
 unfoldable pub forward-of : Built → List Float → Float → Float → Answer
 forward-of (Lambert p) en lon lat = laea-forward.forward p lon lat
 forward-of (Albers p) en lon lat = aea.forward p lon lat
@@ -96,9 +127,12 @@ forward-of (Polyconic p) en lon lat = poly.forward p en lon lat
 forward-of (Guam p) en lon lat = gm.forward p en lon lat
 forward-of (Refused n) en lon lat = answered.Refused n
 
+-- 16 and 17, then 26; a projection that was refused has its own number before them. The formula gets the longitude as it was given.
 unfoldable pub forward : Projection → Float → Float → Answer
-unfolding forward-of
-forward p lon lat = forward-of (p .built) (p .en) lon lat
+unfolding is-refused forward-of
+forward p lon lat =
+    let by-kind = forward-of (p .built) (p .en) lon lat in
+    cond (is-refused (p .built)) by-kind (guard (or-else (validate-lon-lat lon lat) (validate-place (p .area) lon lat)) answered.Refused by-kind)
 
 -- the place before its longitude is normalised, with 01's "formula's longitude"
 unfoldable pub formula-of : Built → List Float → Float → Float → Answer
@@ -114,9 +148,15 @@ unfoldable pub formula : Projection → Float → Float → Answer
 unfolding formula-of
 formula p x y = formula-of (p .built) (p .en) x y
 
+-- back by the kind alone
+unfoldable pub inverse-of : Built → List Float → Float → Float → Answer
+unfolding formula-of
+inverse-of b en x y = finish (formula-of b en x y)
+
+-- 26 stands last, and is about the place that would be handed out
 unfoldable pub inverse : Projection → Float → Float → Answer
-unfolding formula
-inverse p x y = finish (formula p x y)
+unfolding inverse-of
+inverse p x y = ensure-inside (p .area) (inverse-of (p .built) (p .en) x y)
 
 -- ---- one point, as a line of a sheet asks for it
 
@@ -138,21 +178,18 @@ unfoldable pub build : Kind → Float → Float → Settings → Projection
 unfolding new refused
 build kind a f s = on-ellipsoid kind s (from-a-f a f)
 
--- 0 where it is built, or the number of its refusal
-unfoldable pub number-of : Built → ℕ
-number-of (Lambert p) = 0
-number-of (Albers p) = 0
-number-of (Equal p) = 0
-number-of (Cassini p) = 0
-number-of (Polyconic p) = 0
-number-of (Guam p) = 0
-number-of (Refused n) = n
-
-unfoldable pub built-number : Projection → ℕ
-unfolding number-of
-built-number p = number-of (p .built)
-
 -- the projection's checks, then the point's
 unfoldable pub project : Way → Kind → Float → Float → Settings → Float → Float → Answer
 unfolding answer build
 project way kind a f s u v = answer way (build kind a f s) u v
+
+-- ---- with an area of use
+
+-- a projection with an area in place of the one that it has, if any: 25 after all checks of the construction
+unfoldable pub with-area : Projection → Area → Projection
+unfolding built-number refused
+with-area p area = guard (or-else (built-number p) (validate-area area)) refused (record { built = p .built; en = p .en; area = Inside area })
+
+unfoldable pub build-in-area : Kind → Float → Float → Settings → Area → Projection
+unfolding build with-area
+build-in-area kind a f s area = with-area (build kind a f s) area

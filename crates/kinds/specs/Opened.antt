@@ -7,6 +7,7 @@ use Rattle.kinds.specs.Kinds as kinds
 
 unfoldable pub opened : Unit {0}
 unfolding letters-below.opened lambert-below.opened cassini-below.opened polyconic-below.opened kinds.lambert kinds.albers kinds.equal-earth
-    kinds.cassini kinds.polyconic kinds.guam kinds.made kinds.new kinds.forward-of kinds.forward kinds.formula-of kinds.formula kinds.inverse
-    kinds.answer kinds.refused kinds.build kinds.number-of kinds.built-number kinds.project
+    kinds.cassini kinds.polyconic kinds.guam kinds.made kinds.new kinds.number-of kinds.built-number kinds.is-refused kinds.forward-of
+    kinds.forward kinds.formula-of kinds.formula kinds.inverse-of kinds.inverse kinds.answer kinds.refused kinds.build kinds.project kinds.with-area
+    kinds.build-in-area
 opened = tt

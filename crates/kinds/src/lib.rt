@@ -1,12 +1,17 @@
 // The choice over the seven kinds: the source's trait and make_projection.
+mod by_kind;
 mod choices;
 mod points;
 
 ghost use mathlib.Core.Path.{_≡_};
 ghost use Rattle.projection.specs.OnTheMap.{OnTheMap};
-ghost use Rattle.kinds.specs.Kinds.{new, forward, formula, inverse};
+ghost use Rattle.projection.specs.InArea.{InArea};
+ghost use Rattle.kinds.specs.Kinds.{new, forward, formula, inverse, with-area};
 use albers_equal_area::AlbersEqualArea;
 use american_polyconic::AmericanPolyconic;
+use by_kind::forward_of;
+use by_kind::inverse_of;
+use by_kind::is_refused;
 use cassini_soldner::CassiniSoldner;
 use choices::albers;
 use choices::cassini;
@@ -23,10 +28,18 @@ use letters::Settings;
 use letters::used;
 pub use points::answer;
 pub use points::build;
+pub use points::build_in_area;
 pub use points::built_number;
 pub use points::project;
 pub use points::refused;
 use projection::Answer;
+use projection::Area;
+use projection::AreaOfUse;
+use projection::ensure_inside;
+use projection::or_else;
+use projection::validate_area;
+use projection::validate_lon_lat;
+use projection::validate_place;
 
 // What a construction answers: a projection of one of the kinds, or a refusal number.
 pub enum Built {
@@ -39,14 +52,15 @@ pub enum Built {
     Refused(u8),
 }
 
-// The 13 meridian numbers stand beside the choice: an enum holds no array.
+// The 13 meridian numbers stand beside the choice: an enum holds no array. So does the area of use, which every kind may have.
 pub struct Projection {
     pub built: Built,
     pub en: [f64; 13],
+    pub area: AreaOfUse,
 }
 
 impl Projection {
-    // A projection of a kind on any ellipsoid, by the settings that the kind uses.
+    // A projection of a kind on any ellipsoid, by the settings that the kind uses, without an area of use.
     pub fn new(kind: Kind, ellipsoid: Ellipsoid, settings: Settings) -> Projection
         ensures { λ r. ⌜ r ≡ new kind ellipsoid settings ⌝ }
     {
@@ -56,11 +70,12 @@ impl Projection {
         let east = s.false_easting;
         let north = s.false_northing;
         let en = [0.0; 13];
+        let area = AreaOfUse::Anywhere;
         match kind {
             Kind::L => {
                 let new = LambertAzimuthalEqualArea::new(ellipsoid, lon0, lat0, east, north);
                 let built = lambert(new);
-                Projection { built, en }
+                Projection { built, en, area }
             }
             Kind::S => {
                 let new = LambertAzimuthalEqualArea::new_spherical(
@@ -71,68 +86,78 @@ impl Projection {
                     north,
                 );
                 let built = lambert(new);
-                Projection { built, en }
+                Projection { built, en, area }
             }
             Kind::A => {
                 let new = AlbersEqualArea::new(ellipsoid, lon0, lat0, s.lat1, s.lat2, east, north);
                 let built = albers(new);
-                Projection { built, en }
+                Projection { built, en, area }
             }
             Kind::E => {
                 let built = equal_earth(EqualEarth::new(ellipsoid, lon0, east, north));
-                Projection { built, en }
+                Projection { built, en, area }
             }
             Kind::C => {
                 let built = cassini(CassiniSoldner::new(ellipsoid, lon0, lat0, east, north));
-                Projection { built, en }
+                Projection { built, en, area }
             }
             Kind::P => {
                 let new = AmericanPolyconic::new(ellipsoid, lon0, lat0, east, north);
                 let en = new.en;
                 let built = new.built;
                 let built = polyconic(built);
-                Projection { built, en }
+                Projection { built, en, area }
             }
             Kind::G => {
                 let new = GuamProjection::new(ellipsoid, lon0, lat0, east, north);
                 let en = new.en;
                 let built = new.built;
                 let built = guam(built);
-                Projection { built, en }
+                Projection { built, en, area }
             }
         }
     }
 
+    // 16 and 17 are the kind's own checks: they are asked here only where the area refuses the place.
     pub fn forward(self, lon: f64, lat: f64) -> Answer
         ensures { λ r. ⌜ r ≡ forward self lon lat ⌝ }
     {
         let built = self.built;
         let en = self.en;
-        match built {
-            Built::Lambert(p) => p.forward(lon, lat),
-            Built::Albers(p) => p.forward(lon, lat),
-            Built::Equal(p) => p.forward(lon, lat),
-            Built::Cassini(p) => p.forward(lon, lat),
-            Built::Polyconic(p) => p.forward(en, lon, lat),
-            Built::Guam(p) => p.forward(en, lon, lat),
-            Built::Refused(n) => Answer::Refused(n),
+        let area = self.area;
+        let outside = validate_place(area, lon, lat);
+        if is_refused(built) | (outside == 0) {
+            forward_of(built, en, lon, lat)
+        } else {
+            let place = validate_lon_lat(lon, lat);
+            Answer::Refused(or_else(place, outside))
         }
     }
 
-    // Whatever is answered lies on the map: document 01's demand 3.
+    // Whatever is answered lies on the map, document 01's demand 3, and inside the area of use.
     pub fn inverse(self, x: f64, y: f64) -> Answer
-        ensures { λ r. ⌜ (r ≡ inverse self x y) × OnTheMap (formula self x y) r ⌝ }
+        ensures { λ r. ⌜ (r ≡ inverse self x y) × OnTheMap (formula self x y) r × InArea (self .area) r ⌝ }
     {
         let built = self.built;
         let en = self.en;
-        match built {
-            Built::Lambert(p) => p.inverse(x, y),
-            Built::Albers(p) => p.inverse(x, y),
-            Built::Equal(p) => p.inverse(x, y),
-            Built::Cassini(p) => p.inverse(x, y),
-            Built::Polyconic(p) => p.inverse(en, x, y),
-            Built::Guam(p) => p.inverse(en, x, y),
-            Built::Refused(n) => Answer::Refused(n),
+        let area = self.area;
+        ensure_inside(area, inverse_of(built, en, x, y))
+    }
+
+    // The projection with an area in place of the one that it has, if any. A refused one stays refused, by its own number.
+    pub fn with_area(self, area: Area) -> Projection
+        ensures { λ r. ⌜ r ≡ with-area self area ⌝ }
+    {
+        let number = built_number(self);
+        let edges = validate_area(area);
+        let fault = or_else(number, edges);
+        if fault == 0 {
+            let built = self.built;
+            let en = self.en;
+            let area = AreaOfUse::Inside(area);
+            Projection { built, en, area }
+        } else {
+            refused(fault)
         }
     }
 }

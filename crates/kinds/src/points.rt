@@ -1,6 +1,6 @@
 // One point, as a line of a sheet asks for it.
 ghost use mathlib.Core.Path.{_≡_};
-ghost use Rattle.kinds.specs.Kinds.{refused, build, built-number, answer, project};
+ghost use Rattle.kinds.specs.Kinds.{refused, build, build-in-area, built-number, answer, project};
 ghost use Rattle.kinds.specs.OnTheMap.{PointOnTheMap};
 use crate::Built;
 use crate::Projection;
@@ -10,6 +10,8 @@ use letters::Kind;
 use letters::Settings;
 use letters::Way;
 use projection::Answer;
+use projection::Area;
+use projection::AreaOfUse;
 
 // A projection that was refused: it answers every point by the number n.
 pub fn refused(n: u8) -> Projection
@@ -17,7 +19,8 @@ pub fn refused(n: u8) -> Projection
 {
     let built = Built::Refused(n);
     let en = [0.0; 13];
-    Projection { built, en }
+    let area = AreaOfUse::Anywhere;
+    Projection { built, en, area }
 }
 
 // A projection of a kind on the ellipsoid of a and f: the ellipsoid's checks, then the projection's.
@@ -29,6 +32,13 @@ pub fn build(kind: Kind, a: f64, f: f64, settings: Settings) -> Projection
         BuiltEllipsoid::Built(e) => Projection::new(kind, e, settings),
         BuiltEllipsoid::Refused(n) => refused(n),
     }
+}
+
+// The same with an area of use: its check stands after all others.
+pub fn build_in_area(kind: Kind, a: f64, f: f64, settings: Settings, area: Area) -> Projection
+    ensures { λ r. ⌜ r ≡ build-in-area kind a f settings area ⌝ }
+{
+    build(kind, a, f, settings).with_area(area)
 }
 
 // 0 where the projection is built, or the number of its refusal.

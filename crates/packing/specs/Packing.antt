@@ -1,4 +1,5 @@
--- The projection that 31 numbers hold, whatever they are: a mark, the numbers of the kind, and from place 18 on the 13 meridian numbers.
+-- The projection that 36 numbers hold, whatever they are: a mark, the numbers of the kind, from place 18 on the 13 meridian numbers, and from place 31 on
+-- the area of use.
 use Prim.Native.Nat.{ℕ, zero, suc, _+_}
 use Prim.Native.Char.{code}
 use mathlib.Core.Bool.{cond, _&&_}
@@ -17,6 +18,8 @@ use Rattle.equal_earth.specs.declared.EqualEarth.{EqualEarth}
 use Rattle.cassini_soldner.specs.declared.CassiniSoldner.{CassiniSoldner}
 use Rattle.american_polyconic.specs.declared.AmericanPolyconic.{AmericanPolyconic}
 use Rattle.guam_projection.specs.declared.GuamProjection.{GuamProjection}
+use Rattle.projection.specs.declared.AreaOfUse.{AreaOfUse}
+use Rattle.projection.specs.declared.AreaOfUse.the-variants.{Anywhere, Inside}
 use Rattle.kinds.specs.declared.Built.{Built}
 use Rattle.kinds.specs.declared.Built.the-variants.{Lambert, Albers, Equal, Cassini, Polyconic, Guam, Refused}
 use Rattle.kinds.specs.declared.Projection.{Projection}
@@ -123,6 +126,13 @@ guam-of l =
       m1 = at l 8;
     }
 
+-- ---- the area of use
+
+-- from place i on: 1 where there is one, and its edges, which are not checked; any other number where there is none
+unfoldable pub area-from : List Float → ℕ → AreaOfUse
+area-from l i =
+    cond (at l i ≈ one) (Inside (record { west = at l (i + 1); east = at l (i + 2); south = at l (i + 3); north = at l (i + 4) })) Anywhere
+
 -- ---- the whole
 
 -- a mark below 256 is a refusal's number; of any other that names no kind, and of 0, there is no projection
@@ -147,5 +157,5 @@ unfolding marked
 built-of l = marked (toBits binary64 (at l 0)) l
 
 unfoldable pub unpacked : List Float → Projection
-unfolding built-of
-unpacked l = record { built = built-of l; en = from l 18 13 }
+unfolding built-of area-from
+unpacked l = record { built = built-of l; en = from l 18 13; area = area-from l 31 }

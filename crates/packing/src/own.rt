@@ -1,8 +1,8 @@
-// The mark and the numbers of a kind, in the places where `unpacked` reads them.
+// The mark and the numbers of a kind, and the numbers of an area of use, in the places where `unpacked` reads them.
 ghost use mathlib.Core.Path.{_≡_};
 ghost use Rattle.float.specs.Operators.{f64};
 ghost use Rattle.kinds.specs.declared.Built.the-variants.{Refused};
-ghost use Rattle.packing.specs.Packing.{at, aspect-of, lambert-of, albers-of, equal-earth-of, cassini-of, polyconic-of, guam-of, built-of};
+ghost use Rattle.packing.specs.Packing.{at, aspect-of, area-from, lambert-of, albers-of, equal-earth-of, cassini-of, polyconic-of, guam-of, built-of};
 use albers_equal_area::AlbersEqualArea;
 use american_polyconic::AmericanPolyconic;
 use cassini_soldner::CassiniSoldner;
@@ -12,6 +12,7 @@ use float::pick;
 use guam_projection::GuamProjection;
 use lambert_azimuthal_equal_area::Aspect;
 use lambert_azimuthal_equal_area::LambertAzimuthalEqualArea;
+use projection::AreaOfUse;
 
 // The marks of the kinds, as the f64 of their pattern.
 const LAMBERT: f64 = f64::from_bits(332);
@@ -212,4 +213,13 @@ pub(crate) fn refusal(n: u8) -> [f64; 18]
         0.0,
         0.0,
     ]
+}
+
+pub(crate) fn area(area: AreaOfUse) -> [f64; 5]
+    ensures { λ r. ⌜ area-from r 0 ≡ area ⌝ }
+{
+    match area {
+        AreaOfUse::Anywhere => [0.0, 0.0, 0.0, 0.0, 0.0],
+        AreaOfUse::Inside(a) => [1.0, a.west, a.east, a.south, a.north],
+    }
 }

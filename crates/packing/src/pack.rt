@@ -1,6 +1,6 @@
-// A projection's 31 numbers.
+// A projection's 36 numbers.
 ghost use mathlib.Core.Path.{_≡_};
-ghost use Rattle.packing.specs.Packing.{from, built-of, unpacked};
+ghost use Rattle.packing.specs.Packing.{from, built-of, area-from, unpacked};
 ghost use Rattle.projection.proofs.NeverZero.{NeverZero};
 ghost use Rattle.kinds.specs.declared.Built.the-variants.{Refused};
 use crate::own;
@@ -21,9 +21,9 @@ fn own_numbers(built: Built) -> [f64; 18]
     }
 }
 
-// The numbers of a kind, and after them the meridian numbers.
-fn joined(own: [f64; 18], en: [f64; 13]) -> [f64; 31]
-    ensures { λ r. ⌜ (built-of r ≡ built-of own) × (from r 18 13 ≡ en) ⌝ }
+// The numbers of a kind, and after them the meridian numbers and those of the area of use.
+fn joined(own: [f64; 18], en: [f64; 13], area: [f64; 5]) -> [f64; 36]
+    ensures { λ r. ⌜ (built-of r ≡ built-of own) × (from r 18 13 ≡ en) × (area-from r 31 ≡ area-from area 0) ⌝ }
 {
     [
         own[0],
@@ -57,14 +57,20 @@ fn joined(own: [f64; 18], en: [f64; 13]) -> [f64; 31]
         en[10],
         en[11],
         en[12],
+        area[0],
+        area[1],
+        area[2],
+        area[3],
+        area[4],
     ]
 }
 
 // Nothing is lost, of a refusal neither: its number is never 0.
-pub fn packed(p: Projection) -> [f64; 31]
+pub fn packed(p: Projection) -> [f64; 36]
     ensures { λ r. ⌜ (NeverZero Refused (p .built) → unpacked r ≡ p) ⌝ }
 {
     let built = p.built;
     let en = p.en;
-    joined(own_numbers(built), en)
+    let area = p.area;
+    joined(own_numbers(built), en, own::area(area))
 }

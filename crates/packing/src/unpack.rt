@@ -1,6 +1,6 @@
-// The projection that 31 numbers hold, whoever wrote them.
+// The projection that 36 numbers hold, whoever wrote them.
 ghost use mathlib.Core.Path.{_≡_};
-ghost use Rattle.packing.specs.Packing.{aspect-of, lambert-of, albers-of, equal-earth-of, cassini-of, polyconic-of, guam-of, refusal-of, built-of, unpacked};
+ghost use Rattle.packing.specs.Packing.{aspect-of, lambert-of, albers-of, equal-earth-of, cassini-of, polyconic-of, guam-of, refusal-of, built-of, area-from, unpacked};
 use albers_equal_area::AlbersEqualArea;
 use american_polyconic::AmericanPolyconic;
 use cassini_soldner::CassiniSoldner;
@@ -11,6 +11,8 @@ use kinds::Built;
 use kinds::Projection;
 use lambert_azimuthal_equal_area::Aspect;
 use lambert_azimuthal_equal_area::LambertAzimuthalEqualArea;
+use projection::Area;
+use projection::AreaOfUse;
 use refusals::LINE_FORM;
 
 fn aspect_of(x: f64) -> Aspect
@@ -25,7 +27,7 @@ fn aspect_of(x: f64) -> Aspect
     }
 }
 
-fn lambert_of(n: &[f64; 31]) -> LambertAzimuthalEqualArea
+fn lambert_of(n: &[f64; 36]) -> LambertAzimuthalEqualArea
     ensures { λ r. ⌜ r ≡ lambert-of (now (n .entry)) ⌝ }
 {
     LambertAzimuthalEqualArea {
@@ -48,7 +50,7 @@ fn lambert_of(n: &[f64; 31]) -> LambertAzimuthalEqualArea
     }
 }
 
-fn albers_of(n: &[f64; 31]) -> AlbersEqualArea
+fn albers_of(n: &[f64; 36]) -> AlbersEqualArea
     ensures { λ r. ⌜ r ≡ albers-of (now (n .entry)) ⌝ }
 {
     AlbersEqualArea {
@@ -64,7 +66,7 @@ fn albers_of(n: &[f64; 31]) -> AlbersEqualArea
     }
 }
 
-fn equal_earth_of(n: &[f64; 31]) -> EqualEarth
+fn equal_earth_of(n: &[f64; 36]) -> EqualEarth
     ensures { λ r. ⌜ r ≡ equal-earth-of (now (n .entry)) ⌝ }
 {
     EqualEarth {
@@ -78,7 +80,7 @@ fn equal_earth_of(n: &[f64; 31]) -> EqualEarth
     }
 }
 
-fn cassini_of(n: &[f64; 31]) -> CassiniSoldner
+fn cassini_of(n: &[f64; 36]) -> CassiniSoldner
     ensures { λ r. ⌜ r ≡ cassini-of (now (n .entry)) ⌝ }
 {
     CassiniSoldner {
@@ -102,7 +104,7 @@ fn cassini_of(n: &[f64; 31]) -> CassiniSoldner
     }
 }
 
-fn polyconic_of(n: &[f64; 31]) -> AmericanPolyconic
+fn polyconic_of(n: &[f64; 36]) -> AmericanPolyconic
     ensures { λ r. ⌜ r ≡ polyconic-of (now (n .entry)) ⌝ }
 {
     AmericanPolyconic {
@@ -116,7 +118,7 @@ fn polyconic_of(n: &[f64; 31]) -> AmericanPolyconic
     }
 }
 
-fn guam_of(n: &[f64; 31]) -> GuamProjection
+fn guam_of(n: &[f64; 36]) -> GuamProjection
     ensures { λ r. ⌜ r ≡ guam-of (now (n .entry)) ⌝ }
 {
     GuamProjection {
@@ -143,7 +145,7 @@ fn refusal_of(mark: u64) -> u8
 }
 
 // A kind's mark is 256 and its letter's code, in the order L, A, E, C, P, G. A refusal's is its number, which is less.
-fn built_of(n: &[f64; 31]) -> Built
+fn built_of(n: &[f64; 36]) -> Built
     ensures { λ r. ⌜ r ≡ built-of (now (n .entry)) ⌝ }
 {
     let mark = bits_of(n[0]);
@@ -158,7 +160,23 @@ fn built_of(n: &[f64; 31]) -> Built
     }
 }
 
-pub fn unpacked(n: &[f64; 31]) -> Projection
+// The edges are not checked: they are only ever compared.
+fn area_of(n: &[f64; 36]) -> AreaOfUse
+    ensures { λ r. ⌜ r ≡ area-from (now (n .entry)) 31 ⌝ }
+{
+    if n[31] == 1.0 {
+        AreaOfUse::Inside(Area {
+            west: n[32],
+            east: n[33],
+            south: n[34],
+            north: n[35],
+        })
+    } else {
+        AreaOfUse::Anywhere
+    }
+}
+
+pub fn unpacked(n: &[f64; 36]) -> Projection
     ensures { λ r. ⌜ r ≡ unpacked (now (n .entry)) ⌝ }
 {
     let built = built_of(n);
@@ -177,5 +195,6 @@ pub fn unpacked(n: &[f64; 31]) -> Projection
         n[29],
         n[30],
     ];
-    Projection { built, en }
+    let area = area_of(n);
+    Projection { built, en, area }
 }

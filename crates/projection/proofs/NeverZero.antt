@@ -13,9 +13,11 @@ use Rattle.projection.specs.Checks.{guard, validate-lon-lat}
 use Rattle.projection.specs.Longitude.{normalize-longitude}
 use Rattle.projection.specs.Starts.{enter, entered}
 use Rattle.projection.specs.Ends.{ensure-finite-xy, ensure-finite-lon-lat, finish}
+use Rattle.projection.specs.AreaOfUse.{validate-normalised, ensure-inside}
 use Rattle.projection.specs.Iteration.{after-step, iterate, compared, converge}
 use Rattle.projection.specs.declared.Answer.{Answer}
 use Rattle.projection.specs.declared.Answer.the-variants.{Pair, Refused}
+use Rattle.projection.specs.declared.AreaOfUse.{AreaOfUse}
 use Rattle.projection.specs.declared.Entrance.{Entrance}
 use Rattle.projection.specs.declared.Entrance.the-variants as entrance
 use Rattle.projection.specs.declared.Step.{Step}
@@ -93,6 +95,12 @@ pub finish-never-zero : (formula : Answer) → NeverZero Refused formula → Nev
 unfolding finish
 finish-never-zero (Pair lon lat) h = lon-lat-never-zero lon lat
 finish-never-zero (Refused k) h = h
+
+-- the same with an area of use
+pub inside-never-zero : (area : AreaOfUse) (answer : Answer) → NeverZero Refused answer → NeverZero Refused (ensure-inside area answer)
+unfolding ensure-inside
+inside-never-zero area (Pair lon lat) h = guard-never-zero Refused one-number (validate-normalised area lon lat) (Pair lon lat) h
+inside-never-zero area (Refused k) h = h
 
 -- ---- iterations
 

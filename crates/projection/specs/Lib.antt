@@ -5,5 +5,8 @@ pub mod Longitude
 pub mod Starts
 pub mod Ends
 pub mod OnTheMap
+pub mod AreaOfUse
+pub mod InArea
 pub mod Iteration
 pub mod Opened
+pub mod AreaCases

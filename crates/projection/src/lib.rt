@@ -1,4 +1,5 @@
 // What every projection shares: the part of the source's mod.rs that the seven kinds use.
+mod area_of_use;
 mod bound;
 mod checks;
 mod ends;
@@ -6,6 +7,10 @@ mod longitude;
 mod results;
 mod starts;
 
+pub use area_of_use::ensure_inside;
+pub use area_of_use::holds;
+pub use area_of_use::validate_area;
+pub use area_of_use::validate_place;
 pub use bound::LAT_BOUND;
 pub use checks::or_else;
 pub use checks::validate_angle;
@@ -27,6 +32,20 @@ pub use starts::enter;
 pub enum Answer {
     Pair(f64, f64),
     Refused(u8),
+}
+
+// The edges of an area, in radians. They belong to it. West above east means that it crosses the line of 180 degrees.
+pub struct Area {
+    pub west: f64,
+    pub east: f64,
+    pub south: f64,
+    pub north: f64,
+}
+
+// Where a projection may be used.
+pub enum AreaOfUse {
+    Anywhere,
+    Inside(Area),
 }
 
 // What the entrance of a forward gives: the longitude from the origin, or a refusal number.

@@ -97,6 +97,14 @@ INVERSE-RESULT = 23
 abbrev pub INVERSE-BEYOND : ℕ
 INVERSE-BEYOND = 24
 
+-- the area of use has an edge that is not a finite number, a west or east beyond 180 degrees (pi), a south or north beyond 90 degrees (pi/2 + 1e-12), or a south above its north
+abbrev pub AREA-EDGES : ℕ
+AREA-EDGES = 25
+
+-- the place lies outside the area of use
+abbrev pub OUTSIDE-AREA : ℕ
+OUTSIDE-AREA = 26
+
 -- the columns have unequal lengths: nothing is read or written
 abbrev pub UNEQUAL-LENGTHS : ℕ
 UNEQUAL-LENGTHS = 255

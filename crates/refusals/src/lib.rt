@@ -72,5 +72,11 @@ pub const INVERSE_RESULT: u8 = 23;
 // The latitude worked out is beyond 90 degrees (pi/2 + 1e-12).
 pub const INVERSE_BEYOND: u8 = 24;
 
+// The area of use has an edge that is not a finite number, a west or east beyond 180 degrees (pi), a south or north beyond 90 degrees (pi/2 + 1e-12), or a south above its north.
+pub const AREA_EDGES: u8 = 25;
+
+// The place lies outside the area of use.
+pub const OUTSIDE_AREA: u8 = 26;
+
 // The columns have unequal lengths: nothing is read or written.
 pub const UNEQUAL_LENGTHS: u8 = 255;

@@ -1,8 +1,11 @@
 // The questions:
 // - a value line of a sheet, answered by the sheet's answer line: `F,P,3ff0000000000000,.. 0,3fe0000000000000,..`;
+// - `area,` and a value line with west, east, south and north after it: the same by a projection built with that area; or
+//   `handed,` and the same: the area is put into the projection unchecked;
 // - a function and its arguments, answered by bits, a bool by 1 or 0: `root,4010000000000000 4000000000000000`;
 // - an ellipsoid's constructor and its arguments, or its name, answered as in a sheet by its number, a and f:
 //   `sphere,3ff0000000000000 0,3ff0000000000000,0000000000000000`.
+use crate::areas::of_area;
 use crate::ellipsoids::of_name;
 use crate::functions::of_one;
 use crate::functions::of_three;
@@ -66,9 +69,23 @@ fn of_call(question: &[u8]) -> Reply {
     }
 }
 
+// What stands after the first comma.
+fn rest(question: &[u8]) -> &[u8] {
+    let comma = find(question, 0, question.len(), b',');
+    if comma < question.len() {
+        return &question[comma + 1..];
+    }
+    &question[comma..]
+}
+
 pub(crate) fn reply(question: &[u8]) -> Reply {
+    let first = field(question, 0);
     if is_value_line(question) {
         of_answer(sheet::answer(question))
+    } else if same(first, b"area") {
+        of_area(rest(question), false)
+    } else if same(first, b"handed") {
+        of_area(rest(question), true)
     } else {
         of_call(question)
     }

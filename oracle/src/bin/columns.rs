@@ -2,13 +2,16 @@
 //! the source with 01's functions, and the source with the platform's. The projection is built
 //! once and takes 200,000 points. A figure is the median of the passes, in ns a point, the sides
 //! taking turns. Ends in 1 where an answer of ours is not that of the source with 01's functions.
-//! `columns growth` times ours for 1,000 to 1,000,000 points, and `columns single` ours by a column,
-//! by a call for each point, and by building and a call for each.
+//! `columns growth` times ours for 1,000 to 1,000,000 points, `columns single` ours by a column, by
+//! a call for each point, and by building and a call for each, and `columns area` ours without an
+//! area of use, with one that holds all the places, and with one that holds none.
 
+use oracle::area::{AreaLine, BOUND, OUTSIDE_AREA, WIDEST};
 use oracle::line::{Columns, KINDS, Line, U, V, WAYS};
 use oracle::lines::Lines;
 use oracle::ours;
 use oracle::source::{fixed, platform};
+use std::f64::consts::PI;
 use std::hint::black_box;
 use std::process::ExitCode;
 use std::time::Instant;
@@ -25,7 +28,8 @@ fn main() -> ExitCode {
         None => sides(),
         Some("growth") => growth(),
         Some("single") => single(),
-        Some(word) => panic!("neither growth nor single: {word}"),
+        Some("area") => area(),
+        Some(word) => panic!("neither growth nor single nor area: {word}"),
     }
 }
 
@@ -54,14 +58,16 @@ fn growth() -> ExitCode {
     for kind in KINDS {
         for way in WAYS {
             let figures = SIZES.map(|size| Points::new(way, kind, size).medians([SIDES[0]])[0]);
-            let (w, k) = (char::from(way), char::from(kind));
-            println!(
-                "{w},{k} {}",
-                figures.map(|ns| format!("{ns:7.1}")).join(" ")
-            );
+            print_row(way, kind, figures);
         }
     }
     ExitCode::SUCCESS
+}
+
+fn print_row<const N: usize>(way: u8, kind: u8, figures: [f64; N]) {
+    let (w, k) = (char::from(way), char::from(kind));
+    let figures = figures.map(|ns| format!("{ns:7.1}"));
+    println!("{w},{k} {}", figures.join(" "));
 }
 
 fn single() -> ExitCode {
@@ -74,18 +80,47 @@ fn single() -> ExitCode {
             let [column, call, anew] = sides.map(|side| points.filled(side));
             let others = column.answers().zip(call.answers().zip(anew.answers()));
             differ += others.filter(|(a, (b, c))| a != b || a != c).count();
-            let figures = points.medians(sides);
-            let (w, k) = (char::from(way), char::from(kind));
-            println!(
-                "{w},{k} {}",
-                figures.map(|ns| format!("{ns:7.1}")).join(" ")
-            );
+            print_row(way, kind, points.medians(sides));
         }
     }
     if differ > 0 {
         println!("{differ} answers are not the column's");
     }
     ExitCode::from(u8::from(differ > 0))
+}
+
+fn area() -> ExitCode {
+    println!(
+        "ns a point of ours: without an area, with one that holds all, with one that holds none"
+    );
+    let mut differ = 0;
+    for kind in KINDS {
+        for way in WAYS {
+            let points = Points::new(way, kind, POINTS);
+            let sides: [Side; 3] = [ours::column, in_widest, in_none];
+            let [without, all, none] = sides.map(|side| points.filled(side));
+            let outside = none.numbers.iter().filter(|&&n| n == OUTSIDE_AREA).count();
+            let pairs = without.answers().zip(all.answers());
+            differ += pairs.filter(|(a, b)| a != b).count() + POINTS - outside;
+            print_row(way, kind, points.medians(sides));
+        }
+    }
+    if differ > 0 {
+        println!("{differ} answers are not those of the area");
+    }
+    ExitCode::from(u8::from(differ > 0))
+}
+
+fn in_widest(line: &Line, u: &[f64], v: &[f64], filled: &mut Columns) {
+    let (line, area, handed) = (*line, WIDEST, false);
+    ours::column_with(&AreaLine { line, area, handed }, u, v, filled);
+}
+
+/// One place, which no office has.
+fn in_none(line: &Line, u: &[f64], v: &[f64], filled: &mut Columns) {
+    let area = [-PI, -PI, -BOUND, -BOUND];
+    let (line, handed) = (*line, false);
+    ours::column_with(&AreaLine { line, area, handed }, u, v, filled);
 }
 
 /// A map and a column of its points.

@@ -52,7 +52,7 @@ fn compare(function: &Function, count: usize) -> usize {
         }
     }
     print!(
-        "{:25} {tried:9} patterns, {differences} differences",
+        "{:27} {tried:9} patterns, {differences} differences",
         function.name
     );
     if function.platform.is_some() {

@@ -1,6 +1,9 @@
 //! Writes the answers that crates/replay replays, of 01's functions and of the source with these: of
-//! functions, of the ellipsoid's numbers, constructors and names, and of value lines of each kind.
+//! functions, of the ellipsoid's numbers, constructors and names, of value lines of each kind, and of
+//! such lines with an area of use.
 
+use oracle::area::{Meant, Rule};
+use oracle::area_sample::area_sample;
 use oracle::cases::{cases, numbers};
 use oracle::ellipsoids::{CONSTRUCTORS, Constructor, NAMED, named_arguments};
 use oracle::functions::{Arguments, ELLIPSOID, FUNCTIONS, Function, Takes};
@@ -23,7 +26,8 @@ fn main() {
         .flat_map(of_function)
         .chain(CONSTRUCTORS.iter().flat_map(of_constructor))
         .chain(named())
-        .chain(ways.flat_map(|(way, kind)| of_kind(way, kind)));
+        .chain(ways.flat_map(|(way, kind)| of_kind(way, kind)))
+        .chain(with_area());
     for line in stored {
         println!("{line}");
     }
@@ -73,6 +77,14 @@ fn of_kind(way: u8, kind: u8) -> Vec<Stored> {
         why,
     };
     others.chain(sharp).map(stored).collect()
+}
+
+fn with_area() -> impl Iterator<Item = Stored> {
+    area_sample().into_iter().map(|(question, why)| Stored {
+        question: question.text(),
+        answer: Meant.answer(&question).text(),
+        why,
+    })
 }
 
 /// The named ellipsoids, the edges of one argument and the specials of two, and then random patterns

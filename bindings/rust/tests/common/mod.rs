@@ -1,12 +1,14 @@
-//! What the tests share: any kind by its letter, and a seeded source of numbers.
+//! What the tests share: any kind by its letter, what an area holds, and a seeded source of numbers.
 
 // Each test is a program of its own and uses a part of this.
 #![allow(dead_code)]
 
 use lenthuc::{
-    AlbersEqualArea, AmericanPolyconic, Answer, CassiniSoldner, Ellipsoid, EqualEarth,
+    AlbersEqualArea, AmericanPolyconic, Answer, Area, CassiniSoldner, Ellipsoid, EqualEarth,
     GuamProjection, LambertAzimuthalEqualArea, Outcome, Projection, Refusal, UnequalLengths,
+    normalize_longitude,
 };
+use std::f64::consts::FRAC_PI_2;
 
 pub const WAYS: [u8; 2] = *b"FI";
 pub const KINDS: [u8; 7] = *b"LSAECPG";
@@ -38,26 +40,73 @@ pub const EARTH: Settings = [
     -200000.0,
 ];
 
+/// Edges of an area: west, east, south, north.
+pub type Edges = [f64; 4];
+
+/// The largest latitude that is one.
+pub const BOUND: f64 = FRAC_PI_2 + 1e-12;
+
 /// The projection of a kind's letter.
 pub fn build(kind: u8, settings: Settings) -> Result<Box<dyn Projection>, Refusal> {
+    boxed(kind, settings, None)
+}
+
+/// The same with an area of use.
+pub fn build_in(
+    edges: Edges,
+    kind: u8,
+    settings: Settings,
+) -> Result<Box<dyn Projection>, Refusal> {
+    boxed(kind, settings, Some(area(edges)))
+}
+
+fn boxed(kind: u8, settings: Settings, area: Option<Area>) -> Result<Box<dyn Projection>, Refusal> {
+    macro_rules! boxed {
+        ($map:expr) => {
+            match area {
+                None => Box::new($map?),
+                Some(area) => Box::new($map?.with_area(area)?),
+            }
+        };
+    }
     let [a, f, lon0, lat0, lat1, lat2, fe, fn_] = settings;
     let ellipsoid = Ellipsoid::from_a_f(a, f)?;
+    let spherical = LambertAzimuthalEqualArea::new_spherical;
     Ok(match kind {
-        b'L' => Box::new(LambertAzimuthalEqualArea::new(
-            ellipsoid, lon0, lat0, fe, fn_,
-        )?),
-        b'S' => Box::new(LambertAzimuthalEqualArea::new_spherical(
-            ellipsoid, lon0, lat0, fe, fn_,
-        )?),
-        b'A' => Box::new(AlbersEqualArea::new(
-            ellipsoid, lon0, lat0, lat1, lat2, fe, fn_,
-        )?),
-        b'E' => Box::new(EqualEarth::new(ellipsoid, lon0, fe, fn_)?),
-        b'C' => Box::new(CassiniSoldner::new(ellipsoid, lon0, lat0, fe, fn_)?),
-        b'P' => Box::new(AmericanPolyconic::new(ellipsoid, lon0, lat0, fe, fn_)?),
-        b'G' => Box::new(GuamProjection::new(ellipsoid, lon0, lat0, fe, fn_)?),
+        b'L' => boxed!(LambertAzimuthalEqualArea::new(
+            ellipsoid, lon0, lat0, fe, fn_
+        )),
+        b'S' => boxed!(spherical(ellipsoid, lon0, lat0, fe, fn_)),
+        b'A' => boxed!(AlbersEqualArea::new(
+            ellipsoid, lon0, lat0, lat1, lat2, fe, fn_
+        )),
+        b'E' => boxed!(EqualEarth::new(ellipsoid, lon0, fe, fn_)),
+        b'C' => boxed!(CassiniSoldner::new(ellipsoid, lon0, lat0, fe, fn_)),
+        b'P' => boxed!(AmericanPolyconic::new(ellipsoid, lon0, lat0, fe, fn_)),
+        b'G' => boxed!(GuamProjection::new(ellipsoid, lon0, lat0, fe, fn_)),
         _ => panic!("no kind has the letter {kind}"),
     })
+}
+
+/// The area of these edges, as they are.
+pub fn area([west, east, south, north]: Edges) -> Area {
+    Area {
+        west,
+        east,
+        south,
+        north,
+    }
+}
+
+/// Whether an area of these edges holds a place: its longitude is normalised, the edges are not, and
+/// the area crosses the 180 degree line exactly where east is below west.
+pub fn holds([west, east, south, north]: Edges, lon: f64, lat: f64) -> bool {
+    let lon = normalize_longitude(lon);
+    let by_longitude = match east < west {
+        true => west <= lon || lon <= east,
+        false => west <= lon && lon <= east,
+    };
+    by_longitude && south <= lat && lat <= north
 }
 
 /// One point, by a way's letter.
@@ -84,9 +133,18 @@ pub fn column(
     }
 }
 
-/// The next number above a finite one above 0.
+/// The next number above a finite one.
 pub fn next_up(x: f64) -> f64 {
-    f64::from_bits(x.to_bits() + 1)
+    if x < 0.0 {
+        f64::from_bits(x.to_bits() - 1)
+    } else {
+        f64::from_bits(x.abs().to_bits() + 1)
+    }
+}
+
+/// The next number below a finite one.
+pub fn next_down(x: f64) -> f64 {
+    -next_up(-x)
 }
 
 /// A number, 0 if answered, and the patterns of two results.

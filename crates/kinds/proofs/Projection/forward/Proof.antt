@@ -1,17 +1,17 @@
--- Arm by arm, what the kind's forward gives.
-use Rattle.kinds.specs.Kinds.{forward, forward-of}
+-- A place inside has the kind's own answer, which has 16 and 17 in it; one outside has its first refusal.
+use Rattle.kinds.proofs.AreaOfUse.{forward-stays, forward-refused}
 use Rattle.kinds.proofs.Projection.forward.Statement.{statement}
 use Rattle.kinds.proofs.Projection.forward.Tie as tie
 
 pub forward-spec : {M : Type 1} → statement M
-unfolding forward forward-of
 forward-spec =
     tie.close
-    (tie.spec (λ c. c .match .keys1) (λ c κs. tt) (λ c. c .match .keys2) (λ c κs. tt) (λ c. c .match .keys3) (λ c κs. tt) (λ c. c .match .keys4) (λ c κs. tt) (λ c. c .match .keys5) (λ c κs. tt) (λ c. c .match .keys6) (λ c κs. tt) (λ c. c .match .keys7)
-    (λ c. simp (← c .forward .ensures, c .before .before .built .given .1))
-    (λ c. simp (← c .forward2 .ensures, c .before .before .built2 .given .1))
-    (λ c. simp (← c .forward3 .ensures, c .before .before .built3 .given .1))
-    (λ c. simp (← c .forward4 .ensures, c .before .before .built4 .given .1))
-    (λ c. simp (← c .forward5 .ensures, c .before .before .built5 .given .1))
-    (λ c. simp (← c .forward6 .ensures, c .before .before .built6 .given .1))
-    (λ c. simp (c .before .built7 .given .1)))
+    (tie.spec (λ c κs. tt) (λ c κs. tt) (λ c κs. tt) (λ c κs. tt) (λ c κs. tt)
+    (λ c.
+    let refused = c .before .before in
+    let args = refused .before .before .before .args in
+    rw (c .forward-of .ensures) (forward-stays (args .self) (args .lon) (args .lat) (refused .is-refused .ensures) (refused .before .validate-place .ensures) (c .before .if1 .taken)))
+    (λ c.
+    let refused = c .before .before .before in
+    let args = refused .before .before .before .args in
+    rw (c .or-else .ensures) (forward-refused (args .self) (args .lon) (args .lat) (refused .is-refused .ensures) (refused .before .validate-place .ensures) (c .before .validate-lon-lat .ensures) (c .before .before .if1 .left))))

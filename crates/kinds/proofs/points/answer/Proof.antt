@@ -1,4 +1,4 @@
--- By the way; an inverse's answer is on the map.
+-- By the way; an inverse's answer is on the map and inside the area.
 use Rattle.kinds.specs.Kinds.{answer}
 use Rattle.kinds.proofs.points.answer.Statement.{statement}
 use Rattle.kinds.proofs.points.answer.Tie as tie
@@ -8,4 +8,4 @@ unfolding answer
 answer-spec =
     tie.close
     (tie.spec (λ c. c .match .keys1) (λ c κs. tt) (λ c. c .match .keys2) (λ c κs. tt)
-    (λ c. rw (c .before .enum-told .given .1) (c .forward .ensures, tt)) (λ c. rw (c .before .enum-told2 .given .1) (c .inverse .ensures)))
+    (λ c. rw (c .before .enum-told .given .1) (c .forward .ensures, tt)) (λ c. let held = c .inverse .ensures in rw (c .before .enum-told2 .given .1) (held .0, (held .1, held .2))))

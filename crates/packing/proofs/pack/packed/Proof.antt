@@ -6,7 +6,9 @@ use Rattle.packing.proofs.pack.packed.Tie as tie
 
 returns : tie.Need-returns
 unfolding unpacked
-returns c h = rw (c .joined .ensures .0, c .joined .ensures .1, c .before .own-numbers .ensures h) refl
+returns c h =
+    let held = c .joined .ensures in
+    rw (held .0, held .1, held .2, c .before .area .ensures, c .before .before .own-numbers .ensures h) refl
 
 pub packed-spec : {M : Type 1} → statement M
-packed-spec = tie.close (tie.spec (λ c κs. tt) (λ c κs. tt) returns)
+packed-spec = tie.close (tie.spec (λ c κs. tt) (λ c κs. tt) (λ c κs. tt) returns)

@@ -1,4 +1,4 @@
--- What is built, and beside it the meridian numbers.
+-- What is built, and beside it the meridian numbers and the area of use.
 use mathlib.Core.Path.{refl}
 use borrow.Author.Needs.{needs}
 use Rattle.packing.specs.Packing.{from, unpacked}
@@ -8,8 +8,8 @@ use Rattle.packing.proofs.unpack.unpacked.Tie as tie
 returns : tie.Need-returns
 unfolding from unpacked
 returns c =
-    let built = c .before .before .before .before .before .before .before .before .before .before .before .before .before in
-    rw (← built .built-of .ensures) refl
+    let built = c .before .before .before .before .before .before .before .before .before .before .before .before .before .before in
+    rw (← built .built-of .ensures, ← c .area-of .ensures) refl
 
 pub unpacked-spec : {M : Type 1} → statement M
-unpacked-spec = tie.close (tie.spec (λ c κs. tt) (λ c. search needs) (λ c. search needs) (λ c. search needs) (λ c. search needs) (λ c. search needs) (λ c. search needs) (λ c. search needs) (λ c. search needs) (λ c. search needs) (λ c. search needs) (λ c. search needs) (λ c. search needs) (λ c. search needs) returns)
+unpacked-spec = tie.close (tie.spec (λ c κs. tt) (λ c. search needs) (λ c. search needs) (λ c. search needs) (λ c. search needs) (λ c. search needs) (λ c. search needs) (λ c. search needs) (λ c. search needs) (λ c. search needs) (λ c. search needs) (λ c. search needs) (λ c. search needs) (λ c. search needs) (λ c κs. tt) returns)
