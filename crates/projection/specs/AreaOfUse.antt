@@ -35,12 +35,12 @@ holds area lon lat =
     let to-east = lon ≼ area .east in
     (from-west && to-east || crosses area && (from-west || to-east)) && (area .south ≼ lat && lat ≼ area .north)
 
--- 26 for a place outside the area of use, of a place whose longitude is normalised
+-- 26 for a place outside the area of use, whose longitude is normalised already
 unfoldable pub validate-normalised : AreaOfUse → Float → Float → ℕ
 validate-normalised Anywhere lon lat = 0
 validate-normalised (Inside area) lon lat = cond (holds area lon lat) 0 OUTSIDE-AREA
 
--- of any place: its longitude is normalised before the test
+-- the same for any place: its longitude is normalised before the test
 unfoldable pub validate-place : AreaOfUse → Float → Float → ℕ
 unfolding validate-normalised
 validate-place area lon lat = validate-normalised area (normalize-longitude lon) lat

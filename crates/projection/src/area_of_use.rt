@@ -44,7 +44,7 @@ pub fn holds(area: Area, lon: f64, lat: f64) -> bool
         & ((area.south <= lat) & (lat <= area.north))
 }
 
-// 26 for a place outside the area of use, of a place whose longitude is normalised.
+// 26 for a place outside the area of use. Its longitude is normalised already.
 fn validate_normalised(area: AreaOfUse, lon: f64, lat: f64) -> u8
     ensures { λ r. ⌜ (r ≡ validate-normalised area lon lat) × (r ≡ 0 → InArea area (Answer.Pair lon lat)) ⌝ }
 {
@@ -54,7 +54,7 @@ fn validate_normalised(area: AreaOfUse, lon: f64, lat: f64) -> u8
     }
 }
 
-// The same of any place. Where there is no area nothing is normalised.
+// The same for any place, whose longitude is normalised first. Where there is no area nothing is normalised.
 pub fn validate_place(area: AreaOfUse, lon: f64, lat: f64) -> u8
     ensures { λ r. ⌜ r ≡ validate-place area lon lat ⌝ }
 {
