@@ -1,21 +1,25 @@
 -- What an area of use changes, and what it leaves: without one every answer is the kind's own, and with one a place inside has the same bits.
 use Prim.Native.Nat.{ℕ, zero, suc}
 use mathlib.Core.Path.{_≡_, refl, sym, _∙_}
-use mathlib.Core.Bool.{Bool, true, false, cond, _||_}
+use mathlib.Core.Bool.{Bool, true, false, cond, _||_, or-true}
 use mathlib.Core.List.{List}
 use native.Mathlib.Omega.{arith}
 use lib.Dec.{eqb}
 use borrow.Author.Tests.{eqb-true}
 use lib.Ieee.{Float}
 use Rattle.projection.specs.Checks.{guard, or-else, validate-lon-lat}
-use Rattle.projection.specs.AreaOfUse.{validate-area, validate-normalised, validate-place}
+use Rattle.projection.specs.AreaOfUse.{validate-area, validate-normalised, validate-place, ensure-inside}
+use Rattle.projection.specs.Ends.{finish}
+use Rattle.projection.specs.InArea.{InUnits, InArea}
+use Rattle.projection.specs.OnTheMap.{OnTheMap}
 use Rattle.projection.specs.declared.Answer.{Answer}
 use Rattle.projection.specs.declared.Answer.the-variants as answered
 use Rattle.projection.specs.declared.Area.{Area}
 use Rattle.projection.specs.declared.AreaOfUse.the-variants.{Anywhere, Inside}
 use Rattle.projection.proofs.Entered.{checked-once}
-use Rattle.projection.proofs.InArea.{inside-anywhere, inside-passed, inside-answered}
+use Rattle.projection.proofs.InArea.{inside-anywhere, inside-passed, inside-answered, answered-in-units}
 use Rattle.projection.proofs.Refusal.{guard-passed, guard-refused, guard-or-else}
+use Rattle.projection.proofs.SoundArea.{edges-finite}
 use Rattle.ellipsoid.specs.Ellipsoid.{from-a-f}
 use Rattle.ellipsoid.specs.declared.Ellipsoid.{Ellipsoid}
 use Rattle.ellipsoid.specs.declared.BuiltEllipsoid.{BuiltEllipsoid}
@@ -32,7 +36,7 @@ use Rattle.letters.specs.declared.Kind.the-variants.{L, S, A, E, C, P, G}
 use Rattle.letters.specs.declared.Way.{Way}
 use Rattle.letters.specs.declared.Way.the-variants.{Forward, Inverse}
 use Rattle.letters.specs.declared.Settings.{Settings}
-use Rattle.kinds.specs.Kinds.{made, new, number-of, built-number, is-refused, forward-of, forward, inverse-of, inverse, answer, refused, on-ellipsoid, build, project, with-area}
+use Rattle.kinds.specs.Kinds.{made, new, number-of, built-number, is-refused, forward-of, forward, formula-of, formula, inverse-of, inverse, answer, refused, on-ellipsoid, build, project, with-area}
 use Rattle.kinds.specs.declared.Built.{Built}
 use Rattle.kinds.specs.declared.Built.the-variants.{Lambert, Albers, Equal, Cassini, Polyconic, Guam, Refused}
 use Rattle.kinds.specs.declared.Projection.{Projection}
@@ -51,10 +55,13 @@ checked-by-kind (Polyconic p) en lon lat e = checked-once _ lon lat (p .lon0)
 checked-by-kind (Guam p) en lon lat e = checked-once _ lon lat (p .lon0)
 checked-by-kind (Refused n) en lon lat e = let z : _≡_ {A = ℕ} 0 1 = cc in absurd (omega arith)
 
-not-zero : (m v : ℕ) → or-else m v ≡ 0 → eqb v 0 ≡ false → ⊥
+last-zero : (m v : ℕ) → or-else m v ≡ 0 → v ≡ 0
 unfolding or-else
-not-zero zero v z t = let c : true ≡ false = rw z at t in let d : _≡_ {A = ℕ} 0 1 = cc in omega arith
-not-zero (suc m) v z t = omega (arith, z)
+last-zero zero v z = z
+last-zero (suc m) v z = absurd (omega (arith, z))
+
+not-zero : (m v : ℕ) → or-else m v ≡ 0 → eqb v 0 ≡ false → ⊥
+not-zero m v z t = let c : true ≡ false = rw (last-zero m v z) at t in let d : _≡_ {A = ℕ} 0 1 = cc in omega arith
 
 -- what `forward` is, of a projection that is refused or not (r), with the number m of 16 and 17 and v of 26
 module _ (r : Bool) (m v : ℕ) (a : Answer) where
@@ -90,12 +97,8 @@ module _ (p : Projection) (lon lat : Float) where
   -- a place inside has the kind's own answer
   pub forward-inside : validate-place (p .area) lon lat ≡ 0 → forward p lon lat ≡ forward-of (p .built) (p .en) lon lat
   forward-inside z = sym (forward-stays refl refl (rw z (or-true (is-refused (p .built)))))
-    where
-      or-true : (b : Bool) → (b || true) ≡ true
-      or-true true = refl
-      or-true false = refl
 
-  -- without an area every place has
+  -- and so has every place without an area
   pub forward-anywhere : p .area ≡ Anywhere → forward p lon lat ≡ forward-of (p .built) (p .en) lon lat
   unfolding validate-place validate-normalised
   forward-anywhere e = forward-inside (rw e refl)
@@ -165,3 +168,19 @@ module _ (p : Projection) (area : Area) where
   pub with-area-built : built-number p ≡ 0 → validate-area area ≡ 0 → with-area p area ≡ record { built = p .built; en = p .en; area = Inside area }
   unfolding with-area or-else guard
   with-area-built e z = rw (e, z) refl
+
+-- What `kinds::inverse` promises is exact for such a projection: whatever it answers lies inside in whole units, with no word about the edges.
+module _ (p : Projection) (area : Area) (x y lon lat : Float) where
+  pub with-area-in-units : OnTheMap (formula (with-area p area) x y) (inverse (with-area p area) x y)
+      → InArea (with-area p area .area) (inverse (with-area p area) x y)
+      → inverse (with-area p area) x y ≡ answered.Pair lon lat → InUnits area lon lat
+  unfolding with-area guard refused inverse inverse-of formula-of finish ensure-inside
+  with-area-in-units = go (or-else (built-number p) (validate-area area)) refl
+    where
+      inside : Projection
+      inside = record { built = p .built; en = p .en; area = Inside area }
+
+      go : (n : ℕ) → or-else (built-number p) (validate-area area) ≡ n → (let q = guard n refused inside in
+          OnTheMap (formula q x y) (inverse q x y) → InArea (q .area) (inverse q x y) → inverse q x y ≡ answered.Pair lon lat → InUnits area lon lat)
+      go zero z on held e = answered-in-units area _ _ lon lat (edges-finite area (last-zero (built-number p) (validate-area area) z)) on held e
+      go (suc n) z on held e = let c : _≡_ {A = ℕ} 0 1 = cc in absurd (omega arith)

@@ -1,6 +1,6 @@
 -- What the area of use refuses and what it leaves as it is: an answer that passes lies inside, and is the answer without the area.
 use mathlib.Core.Path.{_≡_, refl, ap}
-use mathlib.Core.Bool.{Bool, true, false, _&&_, _||_}
+use mathlib.Core.Bool.{_&&_, _||_}
 use mathlib.Core.Logic.{_⊎_, inl, inr}
 use Prim.Native.Nat.{ℕ, zero, suc}
 use native.Mathlib.Omega.{arith}
@@ -8,6 +8,7 @@ use lib.Dec.{T}
 use lib.Signed.{_≤ℤ_}
 use lib.Ieee.{Float, binary64, fits}
 use lib.Ieee.Scale.{finite}
+use mir.Facts.{and-yes, or-yes}
 use Rattle.float.specs.Operators.{_≼_}
 use Rattle.float.specs.Sign.{negative}
 use Rattle.float.specs.Units.{unit-count, in-units}
@@ -40,24 +41,14 @@ pub record Edges (area : Area) : Type 0 where
 units : {x : Float} → F64 x → T (finite x) → HasUnits binary64 x (negative x) (unit-count binary64 x)
 units {x} t f = finite-of binary64 x t f .units
 
-both : (p q : Bool) → T (p && q) → T p × T q
-both true true h = (tt, tt)
-both true false h = absurd h
-both false q h = absurd h
-
-either : (p q : Bool) → T (p || q) → T p ⊎ T q
-either true q h = inl tt
-either false true h = inr tt
-either false false h = absurd h
-
 module _ (area : Area) (lon lat : Float) (e : Edges area) (u : F64 lon) (v : F64 lat) where
   in-the-units : T (holds area lon lat) → FiniteEdges area → T (finite lon) → T (finite lat) → InUnits area lon lat
   unfolding holds
   in-the-units h f p q =
-      let parts = both (area .west ≼ lon && lon ≼ area .east || crosses area && (area .west ≼ lon || lon ≼ area .east)) (area .south ≼ lat && lat ≼ area .north) h in
-      let latitudes = both (area .south ≼ lat) (lat ≼ area .north) (parts .1) in
+      let parts = and-yes (area .west ≼ lon && lon ≼ area .east || crosses area && (area .west ≼ lon || lon ≼ area .east)) (area .south ≼ lat && lat ≼ area .north) h in
+      let latitudes = and-yes (area .south ≼ lat) (lat ≼ area .north) (parts .1) in
       record {
-        longitude = go (either (area .west ≼ lon && lon ≼ area .east) (crosses area && (area .west ≼ lon || lon ≼ area .east)) (parts .0));
+        longitude = go (or-yes (area .west ≼ lon && lon ≼ area .east) (crosses area && (area .west ≼ lon || lon ≼ area .east)) (parts .0));
         from-south = le-in-units (units (e .south-held) (f .south-finite)) (units v q) (latitudes .0);
         to-north = le-in-units (units v q) (units (e .north-held) (f .north-finite)) (latitudes .1);
       }
@@ -77,10 +68,10 @@ module _ (area : Area) (lon lat : Float) (e : Edges area) (u : F64 lon) (v : F64
 
       go : T (area .west ≼ lon && lon ≼ area .east) ⊎ T (crosses area && (area .west ≼ lon || lon ≼ area .east))
           → Longitudes (in-units (area .west)) (in-units (area .east)) (in-units lon)
-      go (inl k) = let edges = both (area .west ≼ lon) (lon ≼ area .east) k in inl (le-in-units W L (edges .0), le-in-units L E (edges .1))
+      go (inl k) = let edges = and-yes (area .west ≼ lon) (lon ≼ area .east) k in inl (le-in-units W L (edges .0), le-in-units L E (edges .1))
       go (inr k) =
-          let crossing = both (crosses area) (area .west ≼ lon || lon ≼ area .east) k in
-          inr (lt-in-units E W (crossing .0), beyond (either (area .west ≼ lon) (lon ≼ area .east) (crossing .1)))
+          let crossing = and-yes (crosses area) (area .west ≼ lon || lon ≼ area .east) k in
+          inr (lt-in-units E W (crossing .0), beyond (or-yes (area .west ≼ lon) (lon ≼ area .east) (crossing .1)))
 
   pub holds-within : T (holds area lon lat) → Within area lon lat
   holds-within h = record { as-numbers = h; exactly = in-the-units h }

@@ -1,6 +1,6 @@
 -- An area that was handed in with a NaN edge holds no place: no comparison with a NaN is true, and crossing is one.
 use mathlib.Core.Path.{_≡_, refl}
-use mathlib.Core.Bool.{Bool, true, false, _&&_}
+use mathlib.Core.Bool.{false, and-false}
 use lib.Ieee.{Float, nan, inf, fin, lt, le, eq}
 use Rattle.float.specs.Operators.{_≺_, _≼_}
 use Rattle.projection.specs.AreaOfUse.{holds}
@@ -25,10 +25,6 @@ unfolding lt
 below-nan nan = refl
 below-nan (inf s) = refl
 below-nan (fin s m e) = refl
-
-and-false : (b : Bool) → (b && false) ≡ false
-and-false true = refl
-and-false false = refl
 
 module _ (area : Area) (lon lat : Float) where
   pub nan-west : area .west ≡ nan → holds area lon lat ≡ false
