@@ -11,6 +11,8 @@
 //!   that the source has, and `latitude_from_conformal_t`, which no kind of 01's calls;
 //! - azimuthal_equidistant.rs: `AzimuthalEquidistant`, with its crate `geographiclib_rs`.
 //!
+//! albers_equal_area.rs gets a function more: one that takes its numbers as they are handed in.
+//!
 //! The build fails where a text to cut is not found, or found twice, and where a method is left in
 //! `fixed.rs` that is neither 01's nor on the list of those that may stay.
 
@@ -43,7 +45,10 @@ fn tree(source: &Path, build: &str) -> String {
         if build == "fixed" {
             text = fixed(name, &text) + "use crate::methods::Fixed as _;\n";
         }
-        text
+        match name {
+            "projection/albers_equal_area.rs" => text + HANDED,
+            _ => text,
+        }
     };
     let kind = |name: &str| module(name, &file(&format!("projection/{name}.rs")));
     let projection = file("projection/mod.rs")
@@ -57,6 +62,16 @@ fn tree(source: &Path, build: &str) -> String {
         + &module("error", &file("error.rs"))
         + &module("projection", &projection)
 }
+
+/// An Albers of any numbers.
+const HANDED: &str = "
+impl AlbersEqualArea {
+    pub(crate) fn handed(numbers: &[f64; 9]) -> Self {
+        let [a, e, e2, lon0, n, c, rho0, false_easting, false_northing] = *numbers;
+        Self { a, e, e2, lon0, n, c, rho0, false_easting, false_northing }
+    }
+}
+";
 
 fn module(name: &str, text: &str) -> String {
     format!("pub mod {name} {{\n{text}}}\n")

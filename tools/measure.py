@@ -88,8 +88,12 @@ def distance(way, point, pair):
 # ---- the points
 
 
-def maps_of(kind):
-    return [office for office in offices.read() if office.kind == kind]
+def maps_of(kind, radius=None):
+    """The offices' maps of a kind; on a sphere where a radius is named."""
+    maps = [office for office in offices.read() if office.kind == kind]
+    if radius is None:
+        return maps
+    return [office._replace(settings=office.settings._replace(a=radius, f=0.0)) for office in maps]
 
 
 def place(office, lon, lat):
@@ -98,10 +102,9 @@ def place(office, lon, lat):
     return Point(office.kind, office.settings, math.radians(lon), math.radians(lat))
 
 
-def places(kind, count):
-    """As many in the area of each office."""
-    chance = random.Random(f"{SEED}{kind}")
-    maps = maps_of(kind)
+def places(maps, count):
+    """As many in the area of each map."""
+    chance = random.Random(f"{SEED}{maps[0].kind}")
     for office in maps:
         west, south, east, north = office.area
         for _ in range(math.ceil(count / len(maps))):
@@ -112,9 +115,9 @@ def whole_millimetres(point):
     return point._replace(u=round(point.u, 3), v=round(point.v, 3))
 
 
-def both_ways(program, kind, count):
-    """The points of each way: places of the offices' areas, and their images."""
-    there = list(places(kind, count))
+def both_ways(program, maps, count):
+    """The points of each way: places of the maps' areas, and their images."""
+    there = list(places(maps, count))
     return [("F", there), ("I", [whole_millimetres(point) for point in ask(program, "F", there)])]
 
 

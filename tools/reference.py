@@ -182,22 +182,29 @@ class EqualEarth(Authalic):
 
 
 class AlbersEqualArea(Map):
-    """Snyder 14-1 to 14-19, and 3-16 for the latitude."""
+    """Snyder 14-1 to 14-19, and 3-16 for the latitude. On a sphere, where e is 0, q is 2 sin φ, n is 14-6 and the latitude 14-8."""
 
     def __init__(self, settings):
         super().__init__(settings)
-        q0, q1, q2 = (ellipsoidal_q(mp.sin(lat), self.e) for lat in (self.lat0, self.lat1, self.lat2))
+        q0, q1, q2 = (self.q(mp.sin(lat)) for lat in (self.lat0, self.lat1, self.lat2))
         m1, m2 = (mp.cos(lat) / self.w(mp.sin(lat)) for lat in (self.lat1, self.lat2))
-        one_parallel = abs(self.lat1 - self.lat2) < ONE_PARALLEL
-        self.n = mp.sin(self.lat1) if one_parallel else (m1**2 - m2**2) / (q2 - q1)
+        if abs(self.lat1 - self.lat2) < ONE_PARALLEL:
+            self.n = mp.sin(self.lat1)
+        elif self.e == 0:
+            self.n = (mp.sin(self.lat1) + mp.sin(self.lat2)) / 2
+        else:
+            self.n = (m1**2 - m2**2) / (q2 - q1)
         self.c = m1**2 + self.n * q1
         self.rho0 = self.rho(q0)
+
+    def q(self, sin_lat):
+        return 2 * sin_lat if self.e == 0 else ellipsoidal_q(sin_lat, self.e)
 
     def rho(self, q):
         return self.a * mp.sqrt(abs(self.c - self.n * q)) / self.n
 
     def forward(self, lon, lat):
-        rho = self.rho(ellipsoidal_q(mp.sin(lat), self.e))
+        rho = self.rho(self.q(mp.sin(lat)))
         cos_theta, sin_theta = mp.cos_sin(self.n * normalized(lon - self.lon0))
         return self.fe + rho * sin_theta, self.fn + self.rho0 - rho * cos_theta
 
@@ -205,8 +212,11 @@ class AlbersEqualArea(Map):
         dx, dy = x - self.fe, self.rho0 - (y - self.fn)
         turned = mp.sign(self.n)
         q = (self.c - (dx**2 + dy**2) * self.n**2 / self.a**2) / self.n
-        lat = limit(lambda lat: self.latitude_round(q, lat), mp.asin(q / 2))
-        return self.lon0 + mp.atan2(turned * dx, turned * dy) / self.n, lat
+        return self.lon0 + mp.atan2(turned * dx, turned * dy) / self.n, self.latitude(q)
+
+    def latitude(self, q):
+        start = mp.asin(q / 2)
+        return start if self.e == 0 else limit(lambda lat: self.latitude_round(q, lat), start)
 
     def latitude_round(self, q, lat):
         cos_lat, sin_lat = mp.cos_sin(lat)

@@ -1,7 +1,7 @@
 /*
  * IOGP 7-2's Cassini-Soldner example, Trinidad 1903 / Trinidad Grid, in Clarke's links: a projection that is built once, a
- * point forward and back, and a small column with a refused point in it; then projections that are refused, an area of use
- * across the 180 degree line, and a sheet. Checks its own answers: the exit status is 0 if all are right. It is C89, and C++
+ * point forward and back, and a small column with a refused point in it; then projections that are refused, an atlas on a
+ * sphere, an area of use across the 180 degree line, and a sheet. Checks its own answers: the exit status is 0 if all are right. It is C89, and C++
  * too.
  */
 #include "lenthuc.h"
@@ -178,6 +178,30 @@ static void refused_projections(void)
     check(!all_refused(&refused, LENTHUC_LINE_FORM), "a copy of a built projection");
 }
 
+/* Snyder's example of Albers on a sphere: he prints 0.2952720 and 0.2416774. Off the map there is no place. */
+static void an_atlas(void)
+{
+    struct lenthuc_settings sphere = {1.0, 0.0, 0.0, 0.0, 0.0, 0.0, 0.0, 0.0};
+    struct lenthuc_projection atlas;
+    double x, y, lon, lat;
+    uint8_t number;
+    sphere.lon0 = radians(-96.0);
+    sphere.lat0 = radians(23.0);
+    sphere.lat1 = radians(29.5);
+    sphere.lat2 = radians(45.5);
+    check(lenthuc_build(LENTHUC_ALBERS, &sphere, &atlas) == LENTHUC_ANSWERED, "the atlas");
+    check(lenthuc_forward(&atlas, radians(-75.0), radians(35.0), &x, &y) == LENTHUC_ANSWERED, "a place of the atlas");
+    printf("atlas: %.7f %.7f\n", x, y);
+    check(0.29527195 < x && x < 0.29527205 && 0.24167735 < y && y < 0.24167745, "Snyder's digits");
+    check(lenthuc_inverse(&atlas, x, y, &lon, &lat) == LENTHUC_ANSWERED, "the atlas back");
+    lon = degrees(lon) + 75.0;
+    lat = degrees(lat) - 35.0;
+    check(-1e-12 < lon && lon < 1e-12 && -1e-12 < lat && lat < 1e-12, "the place back");
+    number = lenthuc_inverse(&atlas, 0.0, 9.0, &lon, &lat);
+    printf("off the atlas: %s\n", lenthuc_words(number));
+    check(number == LENTHUC_INVERSE_RESULT && is(lon, 0, 0) && is(lat, 0, 0), "off the atlas");
+}
+
 /* A map about the 180 degree line for an office that spans it, from 176 E to 178 W: the area's west is above its east. */
 static void an_area(void)
 {
@@ -310,6 +334,7 @@ int main(void)
     a_column();
     unequal_lengths();
     refused_projections();
+    an_atlas();
     an_area();
     homes_of_the_area();
     an_edge();

@@ -69,8 +69,8 @@
 extern "C" {
 #endif
 
-/* The version of this header, 0.3.0. The archive tells its own by lenthuc_version: where they differ, do not use it. */
-#define LENTHUC_VERSION 300
+/* The version of this header, 0.4.0. The archive tells its own by lenthuc_version: where they differ, do not use it. */
+#define LENTHUC_VERSION 400
 
 /* The version of the archive, as LENTHUC_VERSION. */
 uint32_t lenthuc_version(void);
@@ -195,7 +195,8 @@ uint8_t lenthuc_from_a_rf(double a, double rf, double *f);
 /*
  * What a projection is built of. lon0, lat0 are the origin, lat1, lat2 the parallels, fe, fn the false easting and northing.
  * Albers alone uses lat1 and lat2, and Equal Earth does not use lat0. The value of a setting that a kind does not use never
- * affects an answer.
+ * affects an answer. f = 0 is a sphere, which Guam refuses (11). On a sphere Albers has no rounds: a point off the map gets 23
+ * there, and 22 on an ellipsoid.
  */
 struct lenthuc_settings {
     double a, f, lon0, lat0, lat1, lat2, fe, fn;

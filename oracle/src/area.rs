@@ -1,9 +1,9 @@
 //! Document 02's area of use, from its words alone: which areas are refused, which places lie
-//! inside, and what a projection of the source answers with one. Each step is a method of `Rule`,
-//! so that a test can put a wrong reading in its place.
+//! inside, and what a projection answers with one. Each step is a method of `Rule`, so that a test
+//! can put a wrong reading in its place.
 
+use crate::expected::Projection;
 use crate::line::{Answer, Line, U, V};
-use crate::source::fixed::door::Projection;
 use crate::source::fixed::parts::{normalize_longitude, validate_lon_lat};
 use std::f64::consts::{FRAC_PI_2, PI};
 

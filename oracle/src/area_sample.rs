@@ -5,9 +5,9 @@ use crate::area::{Area, AreaLine, Meant, OUTSIDE_AREA, Rule};
 use crate::area_cases::area_cases;
 use crate::areas::{Areas, CAUSES, Shape, refused_by};
 use crate::cases::numbers;
+use crate::expected::answer;
 use crate::line::{KINDS, Line, WAYS};
 use crate::lines::{Lines, Sort};
-use crate::source::fixed::door::answer;
 
 /// So many lines are tried for one.
 const MOST: usize = 1_000_000;

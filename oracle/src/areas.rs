@@ -2,11 +2,11 @@
 //! at its very longitude and latitude, at the ends of what an edge may be, and beyond them.
 
 use crate::area::{Area, AreaLine, BOUND, EAST, NORTH, SOUTH, WEST, WIDEST};
+use crate::expected::answer;
 use crate::fixed::T;
 use crate::line::{Line, U, V};
 use crate::lines::{Lines, Sort};
 use crate::patterns::{Patterns, of_rank, rank};
-use crate::source::fixed::door::answer;
 use crate::source::fixed::parts::normalize_longitude;
 use std::f64::consts::{FRAC_PI_2, PI};
 

@@ -1,11 +1,13 @@
-//! Lines of which 01 and READINGS say what number they get, and the numbers that a kind can give.
+//! Lines of which 01 and READINGS say what number they get, 'Run only' as 02's sphere has it, and the
+//! numbers that a kind can give.
 
 use crate::line::{A, F, LAT0, LAT1, LAT2, Line, U, V};
 use std::f64::consts::{FRAC_PI_2, PI};
 
 const ALL: &[u8] = b"LSAECPG";
 
-/// 01's numbers, each with the ways and kinds that can give it.
+/// 01's numbers, each with the ways and kinds that can give it. A gives 22 on ellipsoids alone, and
+/// 23 on spheres alone.
 pub const NUMBERS: [(u8, &[u8], &[u8]); 21] = [
     (4, b"FI", ALL),
     (5, b"FI", ALL),
@@ -26,7 +28,7 @@ pub const NUMBERS: [(u8, &[u8], &[u8]); 21] = [
     (20, b"I", ALL),
     (21, b"I", b"P"),
     (22, b"I", b"AEP"),
-    (23, b"I", b"LSECPG"),
+    (23, b"I", ALL),
     (24, b"I", b"ACPG"),
 ];
 
@@ -71,9 +73,9 @@ pub fn cases() -> Vec<(Line, u8)> {
         (line(b"FS", &[(U, PI)]), 18),
         (line(b"IP", &[(F, 1.0 / 300.0), (V, FRAC_PI_2)]), 21),
         (line(b"IC", &[(V, 2.0)]), 24),
-        // Albers between opposite parallels
-        (line(b"FA", &parallels), 19),
-        (line(b"IA", &parallels), 22),
+        // Albers between opposite parallels, on a sphere too
+        (line(b"FA", &parallels), 15),
+        (line(b"IA", &parallels), 15),
         (line(b"FA", &on_ellipsoid), 15),
         // the polyconic's steps are used up before the cosine is looked at
         (line(b"IP", &[(F, stalls[0]), (V, stalls[1])]), 22),

@@ -1,14 +1,17 @@
 //! What the Rattle code is held against: document 01's fixed functions in Rust, written from 01
-//! alone, the source's own files with those functions and with the platform's, document 02's area of
-//! use over these, and what to try them on. No crate of a registry.
+//! alone, the source's own files with those functions and with the platform's, document 02's Albers
+//! on a sphere beside them and its area of use over all, and what to try them on. No crate of a
+//! registry.
 
 pub mod area;
 pub mod area_cases;
 pub mod area_sample;
 pub mod areas;
 pub mod cases;
+pub mod count;
 pub mod damage;
 pub mod ellipsoids;
+pub mod expected;
 pub mod fixed;
 pub mod functions;
 pub mod line;
@@ -22,5 +25,9 @@ pub mod sharp;
 pub mod sheet;
 pub mod sheets;
 pub mod source;
+pub mod sphere;
+pub mod sphere_cases;
+pub mod sphere_sample;
+pub mod spheres;
 pub mod stored;
 pub mod whole;

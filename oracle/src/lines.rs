@@ -1,11 +1,11 @@
 //! Lines to try a kind on, each way: what an office writes, what lies at an edge, random bits, and
 //! random bits of a map's size.
 
+use crate::expected::{Projection, answer};
 use crate::fixed::T;
 use crate::line::{A, F, FE, FN, LAT0, LAT1, LAT2, LON0, Line, U, V};
-use crate::offices::{ELLIPSOIDS, OFFICES, Office};
+use crate::offices::{ELLIPSOIDS, OFFICES, Office, SPHERES};
 use crate::patterns::{Patterns, SPECIALS, of_rank, rank};
-use crate::source::fixed::door::{Projection, answer};
 use std::f64::consts::{FRAC_PI_2, FRAC_PI_4, PI, SQRT_2};
 
 /// What a line is like.
@@ -23,6 +23,8 @@ pub const SORTS: [Sort; 4] = [Sort::Realistic, Sort::Edge, Sort::Random, Sort::S
 pub struct Lines {
     way: u8,
     kind: u8,
+    /// Whether each is on a sphere.
+    spheres: bool,
     patterns: Patterns,
 }
 
@@ -32,7 +34,16 @@ impl Lines {
         Lines {
             way,
             kind,
+            spheres: false,
             patterns,
+        }
+    }
+
+    /// Those of Albers on spheres.
+    pub fn on_spheres(way: u8, seed: u64) -> Lines {
+        Lines {
+            spheres: true,
+            ..Lines::new(way, b'A', seed)
         }
     }
 
@@ -59,16 +70,23 @@ impl Lines {
         if patterns.coin() {
             map.east = patterns.below(360) as f64;
             map.north = patterns.choose(&[1.0, -1.0]);
-            let sphere = !b"AG".contains(&self.kind);
+            let sphere = self.kind != b'G';
             map.office.axes = patterns.choose(&ELLIPSOIDS[usize::from(!sphere)..]);
+        }
+        if self.spheres {
+            let [a, _] = patterns.choose(&SPHERES);
+            map.office.axes = [a, patterns.choose(&ZEROS)];
         }
         self.place(&map)
     }
 
-    /// So many places of the first office's map.
+    /// So many places of the first office's map, on the first sphere where each is on one.
     pub fn column(&mut self, count: usize) -> Vec<Line> {
         let mut of_kind = OFFICES.iter().filter(|o| o.kind == self.kind);
-        let map = Map::new(*of_kind.next().expect("an office of each kind"));
+        let mut map = Map::new(*of_kind.next().expect("an office of each kind"));
+        if self.spheres {
+            map.office.axes = SPHERES[0];
+        }
         (0..count).map(|_| self.place(&map)).collect()
     }
 
@@ -101,10 +119,11 @@ impl Lines {
     /// A simple map and place with up to three fields at an edge, and one time in four a field
     /// moved to where a stretch of equal answers ends.
     fn edge(&mut self) -> Line {
+        let (often, flattenings) = self.of_edges();
         let patterns = &mut self.patterns;
         let mut fields = [0.0; 10];
         fields[A] = patterns.choose(&[1.0, 6378137.0]);
-        fields[F] = patterns.choose(&[0.0, 1.0 / 300.0, 1.0 / 300.0, 0.1]);
+        fields[F] = patterns.choose(flattenings);
         fields[LON0] = patterns.choose(&[0.0, 2.0, -PI]);
         fields[LAT0] = patterns.choose(&[0.0, 0.5, -1.0, FRAC_PI_2, -FRAC_PI_2]);
         fields[LAT1] = patterns.unit();
@@ -117,7 +136,7 @@ impl Lines {
         fields[V] = north * patterns.unit();
         let parallels = self.kind == b'A' && patterns.coin();
         let some = 1 + patterns.below(3) as usize;
-        let mut chosen = [(); 3].map(|()| patterns.choose(&OFTEN));
+        let mut chosen = [(); 3].map(|()| patterns.choose(often));
         if parallels {
             chosen = [LAT1, LAT2, chosen[0]];
         }
@@ -126,11 +145,19 @@ impl Lines {
         }
         let mut line = self.line(fields);
         if self.patterns.below(4) == 0 {
-            let field = self.patterns.choose(&OFTEN);
+            let field = self.patterns.choose(often);
             let beyond = self.edge_of(field, &line.fields);
             line.fields[field] = self.patterns.around(end_of_stretch(&line, field, beyond));
         }
         line
+    }
+
+    /// The fields that are set to an edge, and the flattenings elsewhere.
+    fn of_edges(&self) -> (&'static [usize], &'static [f64]) {
+        match self.spheres {
+            true => (&OFTEN_ON_SPHERES, &ZEROS),
+            false => (&OFTEN, &[0.0, 1.0 / 300.0, 1.0 / 300.0, 0.1]),
+        }
     }
 
     /// An edge of a field, among the others' values.
@@ -174,15 +201,19 @@ impl Lines {
         }
     }
 
-    /// Ten times 64 uniform bits.
+    /// Ten times 64 uniform bits; a sphere's f is a zero.
     fn random(&mut self) -> Line {
-        let fields = [(); 10].map(|()| f64::from_bits(self.patterns.bits()));
+        let mut fields = [(); 10].map(|()| f64::from_bits(self.patterns.bits()));
+        if self.spheres {
+            fields[F] = self.patterns.choose(&ZEROS);
+        }
         self.line(fields)
     }
 
     /// Uniform signs, fractions, and exponents of a map's size.
     fn sized(&mut self) -> Line {
         let mut line = self.random();
+        let spheres = self.spheres;
         let patterns = &mut self.patterns;
         let mut sized = |low: i32, high: i32| {
             let exponent = low + patterns.below((high - low) as u64) as i32;
@@ -190,7 +221,9 @@ impl Lines {
         };
         let fields = &mut line.fields;
         fields[A] = sized(-2, 25);
-        fields[F] = sized(-55, 0);
+        if !spheres {
+            fields[F] = sized(-55, 0);
+        }
         for field in [LON0, LAT0, LAT1, LAT2, U, V] {
             fields[field] = sized(-40, 1).copysign(fields[field]);
         }
@@ -249,6 +282,12 @@ impl Map {
 
 /// The fields, those more often that most edges concern.
 const OFTEN: [usize; 15] = [A, F, F, LON0, LAT0, LAT0, LAT1, LAT2, FE, FN, U, U, V, V, V];
+
+/// The same where f is not to be moved.
+const OFTEN_ON_SPHERES: [usize; 13] = [A, LON0, LAT0, LAT0, LAT1, LAT2, FE, FN, U, U, V, V, V];
+
+/// A sphere's f.
+pub const ZEROS: [f64; 2] = [0.0, -0.0];
 
 /// Their squares overflow or vanish.
 const AXES: [f64; 8] = [

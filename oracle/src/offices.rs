@@ -27,6 +27,9 @@ pub const ELLIPSOIDS: [[f64; 2]; 8] = [
     axes(ellipsoid::AIRY1830),
 ];
 
+/// The spheres of the Earth's size that atlases stand on.
+pub const SPHERES: [[f64; 2]; 2] = [ELLIPSOIDS[0], CLARKE_SPHERE];
+
 const WGS84: [f64; 2] = axes(ellipsoid::WGS84);
 const GRS80: [f64; 2] = axes(ellipsoid::GRS80);
 const CLARKE_1866: [f64; 2] = axes(ellipsoid::CLARKE1866);

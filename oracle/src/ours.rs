@@ -3,9 +3,13 @@
 use crate::area::{Area, AreaLine};
 use crate::fixed;
 use crate::line::{Answer, Columns, Line};
+use crate::sphere;
 
 /// A projection as the archive's callers keep it.
 type Numbers = [f64; 36];
+
+/// From this place on, the numbers of an Albers.
+const ALBERS: usize = 1;
 
 /// From this place on, whether it has an area, and the area's edges.
 const FLAG: usize = 31;
@@ -180,6 +184,13 @@ fn handed_in(line: &Line, flag: f64, area: &Area) -> (Numbers, u8) {
     (projection, number)
 }
 
+/// The numbers of a line's Albers, if it is built.
+pub fn albers(line: &Line) -> Option<sphere::Numbers> {
+    let (projection, number) = built(line);
+    let numbers = projection[ALBERS..].first_chunk().copied();
+    numbers.filter(|_| number == 0)
+}
+
 /// One point by a projection.
 fn point(way: u8, projection: &Numbers, u: f64, v: f64, p: &mut f64, q: &mut f64) -> u8 {
     match way {
@@ -202,6 +213,13 @@ pub fn answer_with(question: &AreaLine) -> Answer {
 /// The same, handed in with any flag.
 pub fn answer_flagged(line: &Line, flag: f64, area: &Area) -> Answer {
     answer_by(handed_in(line, flag, area), line)
+}
+
+/// The answer to a line of Albers, to which these numbers are handed in.
+pub fn answer_handed(line: &Line, numbers: &sphere::Numbers) -> Answer {
+    let (mut projection, number) = built(line);
+    projection[ALBERS..][..numbers.len()].copy_from_slice(numbers);
+    answer_by((projection, number), line)
 }
 
 fn answer_by((projection, refused): (Numbers, u8), line: &Line) -> Answer {

@@ -4,11 +4,11 @@ use oracle::area::{AREA_EDGES, AreaLine, Meant, OUTSIDE_AREA, Rule, WIDEST};
 use oracle::area_cases::area_cases;
 use oracle::areas::{Areas, SHAPES};
 use oracle::cases::line;
+use oracle::expected::answer;
 use oracle::line::{KINDS, LON0, U, V, WAYS};
 use oracle::lines::{Lines, SORTS};
 use oracle::patterns::Patterns;
 use oracle::sheet::{NAMES, answers};
-use oracle::source::fixed::door::answer;
 use oracle::source::fixed::parts::normalize_longitude;
 
 /// The cases of a reading get the numbers that it says.

@@ -1,9 +1,9 @@
-//! What 01 and READINGS say of the source, tried on its build with 01's functions.
+//! What 01 and READINGS say, tried on what is expected.
 
 use oracle::cases::{cases, line};
+use oracle::expected::answer;
 use oracle::fixed::{T, bits_of};
 use oracle::line::{Answer, F, LAT0, LON0, U, V};
-use oracle::source::fixed::door::answer;
 use oracle::source::fixed::parts::from_a_rf;
 use std::f64::consts::{FRAC_PI_2, PI};
 

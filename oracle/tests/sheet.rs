@@ -1,7 +1,7 @@
 //! The forms of a sheet, as 01 and READINGS have them.
 
+use oracle::expected::answer;
 use oracle::sheet::answers;
-use oracle::source::fixed::door::answer;
 
 const NAMES: &str = "way,kind,a,f,lon0,lat0,lat1,lat2,fe,fn,u,v";
 const LINE: &str = "F,P,3ff0000000000000,0000000000000000,0000000000000000,0000000000000000,\

@@ -5,9 +5,9 @@ use oracle::area::{
     AREA_EDGES, Area, AreaLine, BOUND, EAST, Meant, NORTH, OUTSIDE_AREA, Rule, SOUTH, WEST, WIDEST,
 };
 use oracle::areas::{Areas, CAUSES, SHAPES, refused_by};
+use oracle::expected::Projection;
 use oracle::line::{Answer, KINDS, LON0, WAYS};
 use oracle::lines::SORTS;
-use oracle::source::fixed::door::Projection;
 use oracle::source::fixed::parts::normalize_longitude;
 use std::f64::consts::{FRAC_PI_2, PI};
 

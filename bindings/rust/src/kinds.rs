@@ -196,6 +196,24 @@ projection!(LambertAzimuthalEqualArea: lat0);
 /// assert_eq!(no_cone, Err(Refusal::ConeConstant));
 /// # Ok::<(), Refusal>(())
 /// ```
+///
+/// On a sphere it has the sphere's own formulas, and no rounds: a point off the map is refused by 23,
+/// never by 22.
+///
+/// ```
+/// use lenthuc::{AlbersEqualArea, Projection, Refusal, UNIT_SPHERE};
+///
+/// let [lon0, lat0, lat1, lat2] = [-96.0, 23.0, 29.5, 45.5].map(f64::to_radians);
+/// let atlas = AlbersEqualArea::new(UNIT_SPHERE, lon0, lat0, lat1, lat2, 0.0, 0.0)?;
+/// let (x, y) = atlas.forward_degrees(-75.0, 35.0)?;
+/// // Snyder prints 0.2952720 and 0.2416774.
+/// assert!((x - 0.2952720).abs() < 5e-8 && (y - 0.2416774).abs() < 5e-8);
+///
+/// let (lon, lat) = atlas.inverse_degrees(x, y)?;
+/// assert!((lon + 75.0).abs() < 1e-12 && (lat - 35.0).abs() < 1e-12);
+/// assert_eq!(atlas.inverse(0.0, 9.0), Err(Refusal::InverseResult));
+/// # Ok::<(), Refusal>(())
+/// ```
 #[derive(Clone, Copy, PartialEq)]
 pub struct AlbersEqualArea(Built);
 

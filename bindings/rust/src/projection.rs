@@ -81,8 +81,8 @@ pub trait Projection: Sealed + Debug + Send + Sync {
     ///
     /// - 20, [`Refusal::InverseInput`](crate::Refusal::InverseInput)
     /// - 21, [`Refusal::StepAtPole`](crate::Refusal::StepAtPole): polyconic alone
-    /// - 22, [`Refusal::StepsUsedUp`](crate::Refusal::StepsUsedUp): Albers, Equal Earth and
-    ///   polyconic
+    /// - 22, [`Refusal::StepsUsedUp`](crate::Refusal::StepsUsedUp): Albers on an ellipsoid, Equal
+    ///   Earth and polyconic
     /// - 23, [`Refusal::InverseResult`](crate::Refusal::InverseResult)
     /// - 24, [`Refusal::InverseBeyond`](crate::Refusal::InverseBeyond)
     /// - 26, [`Refusal::OutsideArea`](crate::Refusal::OutsideArea): with an [`Area`](crate::Area) alone

@@ -366,11 +366,13 @@ fn the_order_back() {
     let nowhere = [3.0, 3.0, -1.5, -1.5];
     let ellipsoid = [1.0, 1.0 / 300.0, 0.0, 0.0, 0.0, 0.0, 0.0, 0.0];
     let near_1 = [1.0, 1.0 - 2.0_f64.powi(-53), 0.0, 0.0, 0.0, 0.0, 0.0, 0.0];
-    let opposite = [1.0, 0.0, 0.0, 0.0, 0.5, -0.5, 0.0, 0.0];
+    let flattened = [1.0, 1.0 / 300.0, 0.0, 0.6, 0.5, 0.7, 0.0, 0.0];
+    let atlas = [1.0, 0.0, 0.0, 0.6, 0.5, 0.7, 0.0, 0.0];
     for (name, settings, u, v, expected) in [
         (b"IC", UNIT, f64::NAN, 0.0, 20),
         (b"IP", ellipsoid, 0.0, FRAC_PI_2, 21),
-        (b"IA", opposite, 0.0, 0.0, 22),
+        (b"IA", flattened, 0.0, 9.0, 22),
+        (b"IA", atlas, 0.0, 9.0, 23),
         (b"IC", near_1, 0.1, 0.5, 23),
         (b"IC", UNIT, 0.0, 2.0, 24),
         (b"IC", UNIT, 0.1, 0.2, 26),

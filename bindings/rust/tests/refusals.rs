@@ -86,8 +86,10 @@ fn of_settings() {
     assert_eq!(built(b'L', &[(LAT0, bound)]), Some(Refusal::OriginNearPole));
     let lat0 = FRAC_PI_2 - 1e-9;
     assert_eq!(built(b'S', &[(LAT0, lat0)]), Some(Refusal::OriginNearPole));
-    let opposite = [(F, 1.0 / 300.0), (LAT1, 0.5), (LAT2, -0.5)];
-    assert_eq!(built(b'A', &opposite), Some(Refusal::ConeConstant));
+    for f in [1.0 / 300.0, 0.0, -0.0] {
+        let opposite = [(F, f), (LAT1, 0.5), (LAT2, -0.5)];
+        assert_eq!(built(b'A', &opposite), Some(Refusal::ConeConstant));
+    }
 }
 
 /// The scale of the largest maps there are overflows.
@@ -113,7 +115,8 @@ fn of_latitudes_in_their_order() {
 #[test]
 fn of_points() {
     let ellipsoid = [(F, 1.0 / 300.0)];
-    let parallels = [(LAT1, 0.5), (LAT2, -0.5)];
+    let atlas = [(LAT0, 0.6), (LAT1, 0.5), (LAT2, 0.7)];
+    let flattened = [ellipsoid[0], atlas[0], atlas[1], atlas[2]];
     let near_1 = [(F, 1.0 - 2.0_f64.powi(-53))];
     let cases = [
         (projected(b"FE", &[], f64::NAN, 0.0), Refusal::ForwardInput),
@@ -123,10 +126,7 @@ fn of_points() {
         ),
         (projected(b"FC", &[], 0.0, 1.6), Refusal::ForwardBeyond),
         (projected(b"FS", &[], PI, 0.0), Refusal::Antipode),
-        (
-            projected(b"FA", &parallels, 0.0, 0.0),
-            Refusal::ForwardResult,
-        ),
+        (projected(b"FE", &near_1, 0.1, 0.5), Refusal::ForwardResult),
         (
             projected(b"IG", &ellipsoid, f64::NAN, 0.0),
             Refusal::InverseInput,
@@ -135,7 +135,8 @@ fn of_points() {
             projected(b"IP", &ellipsoid, 0.0, FRAC_PI_2),
             Refusal::StepAtPole,
         ),
-        (projected(b"IA", &parallels, 0.0, 0.0), Refusal::StepsUsedUp),
+        (projected(b"IA", &flattened, 0.0, 9.0), Refusal::StepsUsedUp),
+        (projected(b"IA", &atlas, 0.0, 9.0), Refusal::InverseResult),
         (projected(b"IC", &near_1, 0.1, 0.5), Refusal::InverseResult),
         (projected(b"IC", &[], 0.0, 2.0), Refusal::InverseBeyond),
     ];

@@ -1,2 +1,6 @@
 pub mod AsInSource
 pub mod NeverZero
+pub mod OnSphere
+pub mod OppositeParallels
+pub mod SphereInSource
+pub mod Unchanged

@@ -11,8 +11,11 @@ use Rattle.projection.specs.Checks.{validate-settings}
 use Rattle.projection.specs.declared.Answer.the-variants.{Refused}
 use Rattle.projection.specs.declared.Solution.{Solution}
 use Rattle.projection.specs.declared.Solution.the-variants as solution
-use Rattle.projection.proofs.NeverZero.{NeverZero, OneNumber, refusal-never-zero, guard-never-zero, cond-never-zero, pair-never-zero, xy-never-zero, entered-never-zero, guarded-never-zero, finish-never-zero, passed-on-never-zero, converge-never-zero}
-use Rattle.albers_equal_area.specs.AlbersEqualArea.{NO-CONE, derived, checked, new, projected, forward, lat-from-q, place, formula, inverse}
+use Rattle.projection.proofs.NeverZero.{NeverZero, OneNumber, refusal-never-zero, guard-never-zero, cond-never-zero, pair-never-zero, xy-never-zero, entered-never-zero, guarded-never-zero, finish-never-zero, passed-on-never-zero, found-never-zero, converge-never-zero}
+use Rattle.albers_equal_area.specs.Parallels.{NO-CONE}
+use Rattle.albers_equal_area.specs.OnEllipsoid.{lat-from-q}
+use Rattle.albers_equal_area.specs.OnSphere.{is-sphere, sphere-latitude}
+use Rattle.albers_equal_area.specs.AlbersEqualArea.{derived, checked, new, projected, forward, latitude-of-q, place, formula, inverse}
 use Rattle.albers_equal_area.specs.declared.AlbersEqualArea.{AlbersEqualArea}
 use Rattle.albers_equal_area.specs.declared.BuiltAlbersEqualArea.the-variants as built
 
@@ -41,6 +44,11 @@ unfolding place
 place-never-zero p theta (solution.Found lat) h = pair-never-zero _ _
 place-never-zero p theta (solution.Refused k) h = passed-on-never-zero k h
 
+latitude-never-zero : (p : AlbersEqualArea) (q : Float) → NeverZero solution.Refused (latitude-of-q p q)
+unfolding latitude-of-q lat-from-q
+latitude-never-zero p q =
+    cond-never-zero solution.Refused (is-sphere (p .e2)) (found-never-zero (sphere-latitude q)) (converge-never-zero _ _ _ _)
+
 pub inverse-never-zero : (p : AlbersEqualArea) (x y : Float) → NeverZero Refused (inverse p x y)
-unfolding inverse formula lat-from-q
-inverse-never-zero p x y = finish-never-zero (formula p x y) (guarded-never-zero _ _ (place-never-zero p _ _ (converge-never-zero _ _ _ _)))
+unfolding inverse formula
+inverse-never-zero p x y = finish-never-zero (formula p x y) (guarded-never-zero _ _ (place-never-zero p _ _ (latitude-never-zero p _)))

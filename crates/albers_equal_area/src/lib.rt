@@ -1,24 +1,20 @@
-// Albers Equal Area (EPSG method 9822): the source's albers_equal_area.rs.
+// Albers Equal Area (EPSG method 9822): the source's albers_equal_area.rs, and on a sphere, where e2 is 0, Snyder's formulas in its place.
 ghost use mathlib.Core.Path.{_≡_};
-ghost use Rattle.projection.specs.OnTheMap.{OnTheMap};
-ghost use Rattle.albers_equal_area.specs.AlbersEqualArea.{m-func, q-func, parallel-radius, cone-constant, derived, checked, new, projected, forward, latitude-round, lat-from-q, theta-of-offset, q-of-offset, place, formula, inverse};
+ghost use Rattle.albers_equal_area.specs.Parallels.{cone-constant};
+ghost use Rattle.albers_equal_area.specs.OnEllipsoid.{m-func, q-func, ellipsoid-cone};
+ghost use Rattle.albers_equal_area.specs.AlbersEqualArea.{parallel-radius, cone, derived, checked, new};
+
+mod forward;
+mod inverse;
+mod sphere;
+
 use ellipsoid::Ellipsoid;
-use fixed::asin;
-use fixed::atan2;
 use fixed::ln;
 use float::abs;
-use float::signum;
-use projection::Answer;
-use projection::Entrance;
-use projection::Solution;
-use projection::ensure_finite_xy;
-use projection::enter;
-use projection::finish;
-use projection::validate_projected;
 use projection::validate_settings;
 use refusals::CONE_CONSTANT;
-use refusals::STEPS_USED_UP;
 use root::root;
+use sphere::is_sphere;
 use trigonometry::sin;
 use trigonometry::sin_cos;
 
@@ -41,6 +37,13 @@ pub enum BuiltAlbersEqualArea {
     Refused(u8),
 }
 
+// What the latitude settings give: n, C, and the q of the origin.
+struct Cone {
+    n: f64,
+    c: f64,
+    q0: f64,
+}
+
 fn m_func(lat: f64, e2: f64) -> f64
     ensures { λ r. ⌜ r ≡ m-func lat e2 ⌝ }
 {
@@ -50,7 +53,7 @@ fn m_func(lat: f64, e2: f64) -> f64
 }
 
 // Not the shared authalic_q, which counts a tiny e2 as a sphere's.
-fn q_func(lat: f64, e: f64, e2: f64) -> f64
+pub(crate) fn q_func(lat: f64, e: f64, e2: f64) -> f64
     ensures { λ r. ⌜ r ≡ q-func lat e e2 ⌝ }
 {
     let sin_lat = sin(lat);
@@ -61,7 +64,7 @@ fn q_func(lat: f64, e: f64, e2: f64) -> f64
 }
 
 // The radius ρ of a parallel on the map, by its q.
-fn parallel_radius(a: f64, c: f64, n: f64, q: f64) -> f64
+pub(crate) fn parallel_radius(a: f64, c: f64, n: f64, q: f64) -> f64
     ensures { λ r. ⌜ r ≡ parallel-radius a c n q ⌝ }
 {
     a * root(abs(c - n * q)) / n
@@ -119,23 +122,43 @@ impl AlbersEqualArea {
     {
         let e2 = ellipsoid.e2();
         let e = root(e2);
-        let m1 = m_func(lat1, e2);
-        let m2 = m_func(lat2, e2);
-        let q0 = q_func(lat0, e, e2);
-        let q1 = q_func(lat1, e, e2);
-        let q2 = q_func(lat2, e, e2);
-        let n = Self::cone_constant(lat1, lat2, m1, m2, q1, q2);
-        let c = m1 * m1 + n * q1;
+        let cone = Self::cone(lat0, lat1, lat2, e, e2);
         AlbersEqualArea {
             a: ellipsoid.a,
             e,
             e2,
             lon0,
-            n,
-            c,
-            rho0: parallel_radius(ellipsoid.a, c, n, q0),
+            n: cone.n,
+            c: cone.c,
+            rho0: parallel_radius(ellipsoid.a, cone.c, cone.n, cone.q0),
             false_easting,
             false_northing,
+        }
+    }
+
+    fn cone(lat0: f64, lat1: f64, lat2: f64, e: f64, e2: f64) -> Cone
+        ensures { λ r. ⌜ r ≡ cone lat0 lat1 lat2 e e2 ⌝ }
+    {
+        if is_sphere(e2) {
+            Self::sphere_cone(lat0, lat1, lat2)
+        } else {
+            Self::ellipsoid_cone(lat0, lat1, lat2, e, e2)
+        }
+    }
+
+    fn ellipsoid_cone(lat0: f64, lat1: f64, lat2: f64, e: f64, e2: f64) -> Cone
+        ensures { λ r. ⌜ r ≡ ellipsoid-cone lat0 lat1 lat2 e e2 ⌝ }
+    {
+        let m1 = m_func(lat1, e2);
+        let m2 = m_func(lat2, e2);
+        let q0 = q_func(lat0, e, e2);
+        let q1 = q_func(lat1, e, e2);
+        let q2 = q_func(lat2, e, e2);
+        let n = Self::cone_constant(lat1, lat2, (m1 * m1 - m2 * m2) / (q2 - q1));
+        Cone {
+            n,
+            c: m1 * m1 + n * q1,
+            q0,
         }
     }
 
@@ -150,111 +173,14 @@ impl AlbersEqualArea {
         }
     }
 
-    fn cone_constant(lat1: f64, lat2: f64, m1: f64, m2: f64, q1: f64, q2: f64) -> f64
-        ensures { λ r. ⌜ r ≡ cone-constant lat1 lat2 m1 m2 q1 q2 ⌝ }
+    // The n of two parallels, or sin lat1 where they count as one.
+    fn cone_constant(lat1: f64, lat2: f64, of_two: f64) -> f64
+        ensures { λ r. ⌜ r ≡ cone-constant lat1 lat2 «of_two» ⌝ }
     {
         if abs(lat1 - lat2) < Self::ONE_PARALLEL {
             sin(lat1)
         } else {
-            (m1 * m1 - m2 * m2) / (q2 - q1)
+            of_two
         }
-    }
-
-    // The place on the map, at the radius rho and the angle n d_lon from the origin's meridian.
-    fn projected(self, d_lon: f64, lat: f64) -> Answer
-        ensures { λ r. ⌜ r ≡ projected self «d_lon» lat ⌝ }
-    {
-        let q = q_func(lat, self.e, self.e2);
-        let rho = parallel_radius(self.a, self.c, self.n, q);
-        let theta = sin_cos(self.n * d_lon);
-        let x = self.false_easting + rho * theta.sin;
-        let y = self.false_northing + self.rho0 - rho * theta.cos;
-        ensure_finite_xy(x, y)
-    }
-
-    pub fn forward(self, lon: f64, lat: f64) -> Answer
-        ensures { λ r. ⌜ r ≡ forward self lon lat ⌝ }
-    {
-        match enter(lon, lat, self.lon0) {
-            Entrance::Passed(d_lon) => self.projected(d_lon, lat),
-            Entrance::Refused(number) => Answer::Refused(number),
-        }
-    }
-
-    // One round, from lat, towards the latitude that has this q.
-    fn latitude_round(q: f64, e: f64, e2: f64, lat: f64) -> f64
-        ensures { λ r. ⌜ r ≡ latitude-round q e e2 lat ⌝ }
-    {
-        let scaled_q = q / (1.0 - e2);
-        let half_over_e = 1.0 / (2.0 * e);
-        let sc = sin_cos(lat);
-        let sin_lat = sc.sin;
-        let e_sin = e * sin_lat;
-        let one_minus_e2sin2 = 1.0 - e2 * sin_lat * sin_lat;
-        lat
-            + one_minus_e2sin2 * one_minus_e2sin2 / (2.0 * sc.cos)
-                * (scaled_q - sin_lat / one_minus_e2sin2
-                    + half_over_e * ln((1.0 - e_sin) / (1.0 + e_sin)))
-    }
-
-    fn lat_from_q(q: f64, e: f64, e2: f64) -> Solution
-        ensures { λ r. ⌜ r ≡ lat-from-q q e e2 ⌝ }
-    {
-        let mut lat = asin(q / 2.0);
-        for _ in 0..Self::STEPS {
-            let next = Self::latitude_round(q, e, e2, lat);
-            if abs(next - lat) < Self::TOLERANCE {
-                return Solution::Found(next);
-            }
-            lat = next;
-        }
-        Solution::Refused(STEPS_USED_UP)
-    }
-
-    // The angle from the origin's meridian. The offset dx, dy is from the cone's apex; a negative n turns it around.
-    fn theta_of_offset(self, dx: f64, dy: f64) -> f64
-        ensures { λ r. ⌜ r ≡ theta-of-offset self dx dy ⌝ }
-    {
-        let sign = signum(self.n);
-        atan2(dx * sign, dy * sign)
-    }
-
-    // The authalic q of an offset from the cone's apex.
-    fn q_of_offset(self, dx: f64, dy: f64) -> f64
-        ensures { λ r. ⌜ r ≡ q-of-offset self dx dy ⌝ }
-    {
-        let rho = root(dx * dx + dy * dy);
-        (self.c - rho * rho * self.n * self.n / (self.a * self.a)) / self.n
-    }
-
-    // The place of an angle and a latitude. Its longitude is not normalised yet.
-    fn place(self, theta: f64, solution: Solution) -> Answer
-        ensures { λ r. ⌜ r ≡ place self theta solution ⌝ }
-    {
-        match solution {
-            Solution::Found(lat) => Answer::Pair(self.lon0 + theta / self.n, lat),
-            Solution::Refused(number) => Answer::Refused(number),
-        }
-    }
-
-    fn formula(self, x: f64, y: f64) -> Answer
-        ensures { λ r. ⌜ r ≡ formula self x y ⌝ }
-    {
-        let fault = validate_projected(x, y);
-        if fault == 0 {
-            let dx = x - self.false_easting;
-            let dy = self.rho0 - (y - self.false_northing);
-            let theta = self.theta_of_offset(dx, dy);
-            let q = self.q_of_offset(dx, dy);
-            self.place(theta, Self::lat_from_q(q, self.e, self.e2))
-        } else {
-            Answer::Refused(fault)
-        }
-    }
-
-    pub fn inverse(self, x: f64, y: f64) -> Answer
-        ensures { λ r. ⌜ (r ≡ inverse self x y) × OnTheMap (formula self x y) r ⌝ }
-    {
-        finish(self.formula(x, y))
     }
 }

@@ -41,3 +41,6 @@ pub mod Remainder
 pub mod Comparison
 pub mod UnitOrder
 pub mod SizeBound
+pub mod AtMost
+pub mod NotANumber
+pub mod Zero

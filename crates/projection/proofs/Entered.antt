@@ -1,4 +1,4 @@
--- A forward has its checks of the place in itself: to check them before it changes nothing.
+-- A forward has its checks of the place in itself: it is they, and then its formula, as the source writes it; to check them before it changes nothing.
 use mathlib.Core.Path.{_≡_, refl}
 use Prim.Native.Nat.{ℕ, zero, suc}
 use lib.Ieee.{Float}
@@ -8,17 +8,21 @@ use Rattle.float.specs.Operators.{_⊖_}
 use Rattle.projection.specs.Starts.{enter, entered}
 use Rattle.projection.specs.declared.Answer.{Answer}
 use Rattle.projection.specs.declared.Answer.the-variants.{Refused}
-use Rattle.projection.specs.declared.Entrance.{Entrance}
 use Rattle.projection.specs.declared.Entrance.the-variants as entrance
 
-pub checked-once : (project : Float → Answer) (lon lat lon0 : Float)
-    → guard (validate-lon-lat lon lat) Refused (entered project (enter lon lat lon0)) ≡ entered project (enter lon lat lon0)
-unfolding enter entered guard
-checked-once project lon lat lon0 = go (validate-lon-lat lon lat)
-  where
-    place : Entrance
-    place = entrance.Passed (normalize-longitude (lon ⊖ lon0))
+module _ (project : Float → Answer) (lon lat lon0 : Float) where
+  pub checks-first : guard (validate-lon-lat lon lat) Refused (project (normalize-longitude (lon ⊖ lon0))) ≡ entered project (enter lon lat lon0)
+  unfolding enter entered guard
+  checks-first = go (validate-lon-lat lon lat) (normalize-longitude (lon ⊖ lon0))
+    where
+      go : (n : ℕ) (d-lon : Float) → guard n Refused (project d-lon) ≡ entered project (guard n entrance.Refused (entrance.Passed d-lon))
+      go zero d-lon = refl
+      go (suc n) d-lon = refl
 
-    go : (n : ℕ) → guard n Refused (entered project (guard n entrance.Refused place)) ≡ entered project (guard n entrance.Refused place)
-    go zero = refl
-    go (suc n) = refl
+  pub checked-once : guard (validate-lon-lat lon lat) Refused (entered project (enter lon lat lon0)) ≡ entered project (enter lon lat lon0)
+  unfolding guard
+  checked-once = rw (← checks-first) (go (validate-lon-lat lon lat) (project (normalize-longitude (lon ⊖ lon0))))
+    where
+      go : (n : ℕ) (a : Answer) → guard n Refused (guard n Refused a) ≡ guard n Refused a
+      go zero a = refl
+      go (suc n) a = refl

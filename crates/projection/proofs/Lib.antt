@@ -10,3 +10,4 @@ pub mod InArea
 pub mod SoundArea
 pub mod NanEdge
 pub mod Entered
+pub mod Finished

@@ -108,7 +108,7 @@ inside-never-zero area (Refused k) h = h
 pub passed-on-never-zero : (k : ℕ) → NeverZero solution.Refused (solution.Refused k) → NeverZero Refused (Refused k)
 passed-on-never-zero = handed-on solution.Refused Refused one-number
 
-found-never-zero : (v : Float) → NeverZero solution.Refused (solution.Found v)
+pub found-never-zero : (v : Float) → NeverZero solution.Refused (solution.Found v)
 found-never-zero v n e z = let c : _≡_ {A = ℕ} 0 1 = cc in omega arith
 
 solution-one-number : OneNumber solution.Refused

@@ -1,5 +1,6 @@
 -- A refusal number that is not 0 comes before all that follows it.
 use Prim.Native.Nat.{ℕ, zero, suc}
+use native.Mathlib.Omega.{arith}
 use mathlib.Core.Path.{_≡_, refl, sym, ap, _∙_}
 use Rattle.projection.specs.Checks.{or-else, guard}
 
@@ -11,6 +12,12 @@ or-else-refused (suc n) m h = refl
 pub or-else-passed : (n m : ℕ) → n ≡ 0 → or-else n m ≡ m
 unfolding or-else
 or-else-passed n m e = rw e
+
+-- where neither of two refuses
+pub or-else-none : (n m : ℕ) → or-else n m ≡ 0 → (n ≡ 0) × (m ≡ 0)
+unfolding or-else
+or-else-none zero m e = (refl, e)
+or-else-none (suc n) m e = absurd (omega arith)
 
 pub guard-refused : {A : Type 0} (n : ℕ) (refuse : ℕ → A) (a : A) → (n ≡ 0 → ⊥) → guard n refuse a ≡ refuse n
 unfolding guard

@@ -3,9 +3,10 @@ use Prim.Native.Nat.{ℕ, zero, suc, _+_, _-_, _<_, _≤_}
 use mathlib.Core.Path.{_≡_, refl, sym, _∙_}
 use mathlib.Core.Bool.{true, false}
 use native.Mathlib.Omega.{arith}
-use lib.Ieee.{Float}
+use lib.Ieee.{Float, nan, binary64}
 use Rattle.float.specs.Operators.{_⊖_, _≺_}
-use Rattle.float.specs.Sign.{abs}
+use Rattle.float.specs.Sign.{abs, negative}
+use Rattle.float.proofs.NotANumber.{nan-sub, nan-below}
 use Rattle.refusals.specs.Refusals.{STEPS-USED-UP}
 use Rattle.projection.specs.Iteration.{after-step, iterate, compared, converge}
 use Rattle.projection.specs.declared.Step.{Step}
@@ -57,3 +58,9 @@ module _ (rule : Float → Float) (tolerance : Float) where
   pub rounds-used-up : (n k : ℕ) (v : Float) {whole : Solution} → converge rule v (n - k) tolerance ≡ whole → n ≤ k → Refused STEPS-USED-UP ≡ whole
   unfolding converge
   rounds-used-up n k v i h = sym (used-up step n k v h) ∙ i
+
+  -- a rule that gives nothing but NaN uses up every round
+  pub never-converges : ((v : Float) → rule v ≡ nan) → (n : ℕ) (v : Float) → converge rule v n tolerance ≡ Refused STEPS-USED-UP
+  unfolding converge iterate after-step compared abs negative
+  never-converges h zero v = refl
+  never-converges h (suc n) v = rw (h v, nan-sub binary64 v, nan-below tolerance) (never-converges h n nan)

@@ -101,7 +101,7 @@ pub(crate) fn forward(name: &[u8], e: Example, tally: Tally) -> Tally {
     }
 }
 
-fn inverse(name: &[u8], e: Example, tally: Tally) -> Tally {
+pub(crate) fn inverse(name: &[u8], e: Example, tally: Tally) -> Tally {
     io::write_all(STDOUT_FILENO, name);
     io::write_all(STDOUT_FILENO, b", inverse:");
     let answer = project(Way::Inverse, e, e.x_y.0, e.x_y.1);

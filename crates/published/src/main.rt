@@ -3,6 +3,7 @@
 mod edges;
 mod example;
 mod iogp;
+mod proj;
 mod savric;
 mod snyder;
 
@@ -11,7 +12,7 @@ use libc::STDOUT_FILENO;
 
 fn main() {
     let none = Tally { held: 0, differ: 0 };
-    let tally = savric::run(iogp::run(snyder::run(none)));
+    let tally = savric::run(proj::run(iogp::run(snyder::run(none))));
     io::print_decimal(STDOUT_FILENO, tally.held);
     io::write_all(STDOUT_FILENO, b" held, ");
     io::print_decimal(STDOUT_FILENO, tally.differ);

@@ -31,6 +31,18 @@ const ALBERS: Example = Example {
     angle: FIVE_DECIMALS,
 };
 
+const ALBERS_SPHERE: Example = Example {
+    kind: Kind::A,
+    ellipsoid: UNIT_SPHERE,
+    origin: Pair(-96.0, 23.0),
+    parallels: Pair(29.5, 45.5),
+    offsets: NO_OFFSETS,
+    lon_lat: Pair(-75.0, 35.0),
+    x_y: Pair(0.2952720, 0.2416774),
+    length: SEVEN_DECIMALS,
+    angle: FIVE_DECIMALS,
+};
+
 const LAMBERT_OBLIQUE: Example = Example {
     kind: Kind::L,
     ellipsoid: CLARKE1866,
@@ -105,6 +117,7 @@ const POLYCONIC_SPHERE: Example = Example {
 
 pub(crate) fn run(tally: Tally) -> Tally {
     let tally = both_ways(b"Snyder, Albers", ALBERS, tally);
+    let tally = both_ways(b"Snyder, Albers, sphere", ALBERS_SPHERE, tally);
     let tally = both_ways(b"Snyder, Lambert, oblique", LAMBERT_OBLIQUE, tally);
     let tally = both_ways(b"Snyder, Lambert, polar", LAMBERT_POLAR, tally);
     let tally = both_ways(b"Snyder, Lambert, sphere", LAMBERT_SPHERE, tally);

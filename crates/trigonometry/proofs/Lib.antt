@@ -1,2 +1,4 @@
 mod OwnRemainder
 mod Quarters
+pub mod Bounded
+pub mod Odd

@@ -1,17 +1,18 @@
-//! Compares ours with 02's area of use over the source, line by line: `areas [LINES]`, so many of
-//! each way and kind, 100,000 if none is named, after those that crates/replay has stored. Half are
-//! built with their area, and half have it handed in. What is neither 25 nor 26 must be what ours
-//! answers without the area; a projection that is built with an area must have the numbers of one
-//! that has it handed in; by a flag that is not an area's there must be none; and columns are
-//! compared too. Ends in 1 where any differs, or where a number that is to come up does not.
+//! Compares ours with 02's area of use, line by line: `areas [LINES]`, so many of each way and kind,
+//! 100,000 if none is named, after those that crates/replay has stored. Half are built with their
+//! area, and half have it handed in. What is neither 25 nor 26 must be what ours answers without the
+//! area; a projection that is built with an area must have the numbers of one that has it handed in;
+//! by a flag that is not an area's there must be none; and columns are compared too. Ends in 1 where
+//! any differs, or where a number that is to come up does not.
 
 use oracle::area::{AREA_EDGES, AreaLine, Meant, OUTSIDE_AREA, Rule};
 use oracle::area_sample::area_sample;
 use oracle::areas::{Areas, SHAPES};
+use oracle::count::Count;
+use oracle::expected::answer;
 use oracle::line::{Answer, Columns, KINDS, WAYS};
 use oracle::lines::{SORTS, Sort};
 use oracle::ours;
-use oracle::source::fixed::door::answer;
 use std::process::ExitCode;
 
 const LINES: usize = 100_000;
@@ -98,35 +99,12 @@ fn compare(way: u8, kind: u8, count: usize, groups: &mut Groups) -> Tally {
     tally
 }
 
-/// How many answers had each number.
-#[derive(Default)]
-struct Numbers([usize; 27]);
-
-impl Numbers {
-    fn count(&mut self, answer: Answer) {
-        self.0[usize::from(answer.number)] += 1;
-    }
-
-    fn of(&self, number: u8) -> usize {
-        self.0[usize::from(number)]
-    }
-
-    /// Those that came up.
-    fn text(&self) -> String {
-        let listed = |(number, &count): (usize, &usize)| match count {
-            0 => String::new(),
-            _ => format!(" {number}: {count}"),
-        };
-        self.0.iter().enumerate().map(listed).collect()
-    }
-}
-
 /// What was compared of one way and kind.
 #[derive(Default)]
 struct Tally {
     differences: usize,
-    built: Numbers,
-    handed: Numbers,
+    built: Count,
+    handed: Count,
     /// Places outside that get 18 or 19 without the area.
     hidden: usize,
     points: usize,
@@ -224,8 +202,8 @@ impl Tally {
 /// The numbers by the sort of the line, and by the shape of the area.
 #[derive(Default)]
 struct Groups {
-    sorts: [Numbers; SORTS.len()],
-    shapes: [Numbers; SHAPES.len()],
+    sorts: [Count; SORTS.len()],
+    shapes: [Count; SHAPES.len()],
 }
 
 impl Groups {
@@ -240,9 +218,9 @@ impl Groups {
         let sorts = SORTS.map(|sort| format!("{sort:?}"));
         let shapes = SHAPES.map(|shape| format!("{shape:?}"));
         let names = sorts.iter().chain(&shapes);
-        for (name, numbers) in names.zip(self.sorts.iter().chain(&self.shapes)) {
-            let [answered, refused, outside] = [0, AREA_EDGES, OUTSIDE_AREA].map(|n| numbers.of(n));
-            let others = numbers.0.iter().sum::<usize>() - answered - refused - outside;
+        for (name, count) in names.zip(self.sorts.iter().chain(&self.shapes)) {
+            let [answered, refused, outside] = [0, AREA_EDGES, OUTSIDE_AREA].map(|n| count.of(n));
+            let others = count.total() - answered - refused - outside;
             println!("{name:9} {answered:7} {refused:7} {outside:7} {others:7}");
         }
     }

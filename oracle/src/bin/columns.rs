@@ -3,10 +3,12 @@
 //! once and takes 200,000 points. A figure is the median of the passes, in ns a point, the sides
 //! taking turns. Ends in 1 where an answer of ours is not that of the source with 01's functions.
 //! `columns growth` times ours for 1,000 to 1,000,000 points, `columns single` ours by a column, by
-//! a call for each point, and by building and a call for each, and `columns area` ours without an
-//! area of use, with one that holds all the places, and with one that holds none.
+//! a call for each point, and by building and a call for each, `columns area` ours without an area of
+//! use, with one that holds all the places, and with one that holds none, and `columns sphere` Albers
+//! on its ellipsoid and on a sphere: ours, and the same in Rust, which on a sphere is the oracle's.
 
 use oracle::area::{AreaLine, BOUND, OUTSIDE_AREA, WIDEST};
+use oracle::expected;
 use oracle::line::{Columns, KINDS, Line, U, V, WAYS};
 use oracle::lines::Lines;
 use oracle::ours;
@@ -29,7 +31,8 @@ fn main() -> ExitCode {
         Some("growth") => growth(),
         Some("single") => single(),
         Some("area") => area(),
-        Some(word) => panic!("neither growth nor single nor area: {word}"),
+        Some("sphere") => sphere(),
+        Some(word) => panic!("neither growth nor single nor area nor sphere: {word}"),
     }
 }
 
@@ -111,6 +114,28 @@ fn area() -> ExitCode {
     ExitCode::from(u8::from(differ > 0))
 }
 
+fn sphere() -> ExitCode {
+    println!("ns a point of A: ours, Rust; ours / Rust");
+    let mut differ = 0;
+    for way in WAYS {
+        let ellipsoid = Points::new(way, b'A', POINTS);
+        let sphere = Points::of(Lines::on_spheres(way, 3).column(POINTS));
+        for (name, points) in [("ellipsoid", ellipsoid), ("sphere", sphere)] {
+            let sides: [Side; 2] = [ours::column, expected::column];
+            let [ours, rust] = sides.map(|side| points.filled(side));
+            let pairs = ours.answers().zip(rust.answers());
+            differ += pairs.filter(|(ours, rust)| ours != rust).count();
+            let [ours, rust] = points.medians(sides);
+            let (w, ratio) = (char::from(way), ours / rust);
+            println!("{w},A {name:9} {ours:7.1} {rust:7.1} {ratio:6.2}");
+        }
+    }
+    if differ > 0 {
+        println!("{differ} answers are not as expected");
+    }
+    ExitCode::from(u8::from(differ > 0))
+}
+
 fn in_widest(line: &Line, u: &[f64], v: &[f64], filled: &mut Columns) {
     let (line, area, handed) = (*line, WIDEST, false);
     ours::column_with(&AreaLine { line, area, handed }, u, v, filled);
@@ -132,7 +157,11 @@ struct Points {
 
 impl Points {
     fn new(way: u8, kind: u8, count: usize) -> Points {
-        let lines = Lines::new(way, kind, 3).column(count);
+        Points::of(Lines::new(way, kind, 3).column(count))
+    }
+
+    /// Of lines with one map.
+    fn of(lines: Vec<Line>) -> Points {
         let column = |field: usize| lines.iter().map(|line| line.fields[field]).collect();
         let (line, u, v) = (lines[0], column(U), column(V));
         Points { line, u, v }

@@ -1,18 +1,19 @@
-//! Writes the answers that crates/replay replays, of 01's functions and of the source with these: of
-//! functions, of the ellipsoid's numbers, constructors and names, of value lines of each kind, and of
-//! such lines with an area of use.
+//! Writes the answers that crates/replay replays, of 01's functions, of the source with these, and of
+//! 02: of functions, of the ellipsoid's numbers, constructors and names, of value lines of each kind,
+//! with Albers on a sphere, and of such lines with an area of use.
 
 use oracle::area::{Meant, Rule};
 use oracle::area_sample::area_sample;
 use oracle::cases::{cases, numbers};
 use oracle::ellipsoids::{CONSTRUCTORS, Constructor, NAMED, named_arguments};
+use oracle::expected::answer;
 use oracle::functions::{Arguments, ELLIPSOID, FUNCTIONS, Function, Takes};
 use oracle::line::{KINDS, Line, WAYS};
 use oracle::lines::{Lines, Sort};
 use oracle::patterns::{Patterns, SPECIALS, edge_arguments};
 use oracle::sharp::sharp;
-use oracle::source::fixed::door::answer;
 use oracle::source::fixed::parts::axes;
+use oracle::sphere_sample::sphere_sample;
 use oracle::stored::{Stored, question};
 
 /// So many lines are tried for a number.
@@ -71,12 +72,16 @@ fn of_kind(way: u8, kind: u8) -> Vec<Stored> {
     let sharp = sharp()
         .into_iter()
         .filter(|(line, _)| (line.way, line.kind) == (way, kind));
+    let spheres = match kind {
+        b'A' => sphere_sample(way),
+        _ => Vec::new(),
+    };
     let stored = |(line, why): (Line, _)| Stored {
         question: line.text(),
         answer: answer(&line).text(),
         why,
     };
-    others.chain(sharp).map(stored).collect()
+    others.chain(sharp).chain(spheres).map(stored).collect()
 }
 
 fn with_area() -> impl Iterator<Item = Stored> {

@@ -1,13 +1,14 @@
-//! 01's sheet program over the source: a sheet on standard input, its answers on standard output.
-//! `sheet --platform` takes the build with the platform's functions.
+//! 01's sheet program: a sheet on standard input, its answers on standard output. `sheet --platform`
+//! takes the source with the platform's functions, which has no Albers on a sphere.
 
+use oracle::expected;
 use oracle::sheet::answers;
-use oracle::source::{fixed, platform};
+use oracle::source::platform;
 use std::io::{Read, Write, stdin, stdout};
 
 fn main() {
     let answer = match std::env::args().nth(1).as_deref() {
-        None => fixed::door::answer,
+        None => expected::answer,
         Some("--platform") => platform::door::answer,
         Some(word) => panic!("not --platform: {word}"),
     };

@@ -1,13 +1,13 @@
-//! Holds a program's standard output, byte for byte, against what 01's sheet program over the
-//! source prints: `sheets STEP COMMAND..`, where the words of COMMAND run the program. Sheets of
-//! every size, every change of one byte of a line, damaged sheets, those at an end of what a sheet
-//! may be, input and output that come and go in parts, and noise of every STEPth length. At the
-//! first that differs it saves the sheet, says where, and ends in 1.
+//! Holds a program's standard output, byte for byte, against what 01's sheet program prints by what
+//! is expected: `sheets STEP COMMAND..`, where the words of COMMAND run the program. Sheets of every
+//! size, every change of one byte of a line, damaged sheets, those at an end of what a sheet may be,
+//! input and output that come and go in parts, and noise of every STEPth length. At the first that
+//! differs it saves the sheet, says where, and ends in 1.
 
+use oracle::expected::answer;
 use oracle::program::{Feed, Outcome, Program, Take};
 use oracle::sheet::answers;
 use oracle::sheets::{MOST_LINES, Named, Sheets};
-use oracle::source::fixed::door::answer;
 use std::time::Duration;
 
 const DAMAGED: usize = 2000;

@@ -20,6 +20,11 @@ impl Projection {
         build(kind, fields).map(Projection).map_err(number)
     }
 
+    /// An Albers of any numbers, in the order of its fields.
+    pub fn albers(numbers: &[f64; 9]) -> Projection {
+        Projection(Box::new(AlbersEqualArea::handed(numbers)))
+    }
+
     pub fn project(&self, way: u8, u: f64, v: f64) -> Answer {
         let result = match way {
             b'F' => self.0.forward(u, v),

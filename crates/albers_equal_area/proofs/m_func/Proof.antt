@@ -1,5 +1,5 @@
 -- The same operations, from the callees' results.
-use Rattle.albers_equal_area.specs.AlbersEqualArea.{m-func}
+use Rattle.albers_equal_area.specs.OnEllipsoid.{m-func}
 use Rattle.albers_equal_area.proofs.m_func.Statement.{statement}
 use Rattle.albers_equal_area.proofs.m_func.Tie as tie
 

@@ -1,5 +1,5 @@
 -- The same operations, from the callees' results.
-use Rattle.albers_equal_area.specs.AlbersEqualArea.{q-func}
+use Rattle.albers_equal_area.specs.OnEllipsoid.{q-func}
 use Rattle.albers_equal_area.proofs.q_func.Statement.{statement}
 use Rattle.albers_equal_area.proofs.q_func.Tie as tie
 

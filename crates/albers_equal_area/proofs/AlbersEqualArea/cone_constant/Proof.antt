@@ -1,5 +1,5 @@
 -- The branches are the definition's.
-use Rattle.albers_equal_area.specs.AlbersEqualArea.{cone-constant}
+use Rattle.albers_equal_area.specs.Parallels.{cone-constant}
 use Rattle.albers_equal_area.proofs.AlbersEqualArea.cone_constant.Statement.{statement}
 use Rattle.albers_equal_area.proofs.AlbersEqualArea.cone_constant.Tie as tie
 

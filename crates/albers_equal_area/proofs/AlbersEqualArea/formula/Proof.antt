@@ -10,7 +10,7 @@ returns c =
     let theta = c .before .before .before in
     let passed = theta .before .before .before .before in
     passes _ _ _ (passed .if1 .taken) (passed .before .validate-projected .ensures)
-    (rw (← (theta .theta-of-offset .ensures), ← (c .before .before .q-of-offset .ensures), ← (c .before .lat-from-q .ensures)) (c .place .ensures))
+    (rw (← (theta .theta-of-offset .ensures), ← (c .before .before .q-of-offset .ensures), ← (c .before .latitude-of-q .ensures)) (c .place .ensures))
 
 pub formula-spec : {M : Type 1} → statement M
 unfolding formula

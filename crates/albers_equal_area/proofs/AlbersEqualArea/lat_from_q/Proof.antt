@@ -5,7 +5,7 @@ use native.Mathlib.Omega.{arith}
 use borrow.Author.Needs.{needs}
 use Rattle.projection.specs.Iteration.{converge}
 use Rattle.projection.proofs.Steps.{converged, one-round, rounds-used-up}
-use Rattle.albers_equal_area.specs.AlbersEqualArea.{latitude-round, lat-from-q, STEPS, TOLERANCE}
+use Rattle.albers_equal_area.specs.OnEllipsoid.{latitude-round, lat-from-q, STEPS, TOLERANCE}
 use Rattle.albers_equal_area.proofs.AlbersEqualArea.lat_from_q.Statement.{statement}
 use Rattle.albers_equal_area.proofs.AlbersEqualArea.lat_from_q.Tie as tie
 

@@ -1,5 +1,5 @@
 -- The same operations, from the callees' results.
-use Rattle.albers_equal_area.specs.AlbersEqualArea.{latitude-round}
+use Rattle.albers_equal_area.specs.OnEllipsoid.{latitude-round}
 use Rattle.albers_equal_area.proofs.AlbersEqualArea.latitude_round.Statement.{statement}
 use Rattle.albers_equal_area.proofs.AlbersEqualArea.latitude_round.Tie as tie
 

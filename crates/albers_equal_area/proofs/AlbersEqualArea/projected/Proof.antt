@@ -9,7 +9,7 @@ returns c =
     let x = c .before .before .before in
     let theta = x .before .before in
     let rho = theta .before .before in
-    rw (← (rho .before .q-func .ensures), ← (rho .parallel-radius .ensures), ← (theta .sin-cos .ensures .0), ← (theta .sin-cos .ensures .1))
+    rw (← (rho .before .q-of-latitude .ensures), ← (rho .parallel-radius .ensures), ← (theta .sin-cos .ensures .0), ← (theta .sin-cos .ensures .1))
     (c .ensure-finite-xy .ensures)
 
 pub projected-spec : {M : Type 1} → statement M
