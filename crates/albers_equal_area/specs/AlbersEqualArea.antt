@@ -31,6 +31,7 @@ parallel-radius a c n q = a ⊗ root (abs (c ⊖ n ⊗ q)) ⊘ n
 
 -- ---- the constructor
 
+-- n, C and the origin's q
 unfoldable pub cone : Float → Float → Float → Float → Float → Cone
 cone lat0 lat1 lat2 e e2 = cond (is-sphere e2) (sphere-cone lat0 lat1 lat2) (ellipsoid-cone lat0 lat1 lat2 e e2)
 
@@ -62,6 +63,7 @@ new ellipsoid lon0 lat0 lat1 lat2 false-easting false-northing =
 
 -- ---- forward
 
+-- the q of a place
 unfoldable pub q-of-latitude : AlbersEqualArea → Float → Float
 q-of-latitude p lat = cond (is-sphere (p .e2)) (sphere-q lat) (q-func lat (p .e) (p .e2))
 
@@ -77,6 +79,7 @@ forward p lon lat = entered (λ d-lon. projected p d-lon lat) (enter lon lat (p 
 
 -- ---- inverse
 
+-- the latitude of a q: on a sphere there is no round that could refuse
 unfoldable pub latitude-of-q : AlbersEqualArea → Float → Solution
 latitude-of-q p q = cond (is-sphere (p .e2)) (solution.Found (sphere-latitude q)) (lat-from-q q (p .e) (p .e2))
 

@@ -26,12 +26,9 @@ use Rattle.sums.proofs.NestedSize.{nested-small}
 use Rattle.sums.proofs.FactorialSize.{terms-small}
 use Rattle.trigonometry.specs.Trigonometry.{five, seven, within-turn, quarters, rest, sine-sum, cosine-sum, by-quarter, sine-at, cosine-at, quarters-of, rest-of, sine, cosine}
 use Rattle.trigonometry.specs.Opened.{opened}
+use Rattle.trigonometry.proofs.OwnRemainder.{turn-is}
 
 -- ---- constants, by computation
-turn-is : Finite binary64 TURN false (unit-count binary64 TURN)
-unfolding opened fits
-turn-is = finite-of binary64 TURN tt tt
-
 turn-below-8 : (0 < unit-count binary64 TURN) × (unit-count binary64 TURN ≤ 2 ^ (1074 + 3))
 unfolding opened fits
 turn-below-8 = (lit< tt, lit≤ tt)

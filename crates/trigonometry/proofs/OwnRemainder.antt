@@ -32,7 +32,7 @@ bounded (inf true) above below = absurd (false≢true above)
 bounded (inf false) above below = absurd (false≢true below)
 bounded (fin s m e) above below = tt
 
-turn-is : Finite binary64 TURN false (unit-count binary64 TURN)
+pub turn-is : Finite binary64 TURN false (unit-count binary64 TURN)
 unfolding ofBits negative fits
 turn-is = finite-of binary64 TURN tt tt
 
