@@ -71,7 +71,7 @@ fn spheres() -> Vec<SphereCase> {
     ]
 }
 
-/// Snyder's worked example (PP 1395, page 291), and the way back.
+/// Snyder's worked example (PP 1395, Appendix A), and the way back.
 fn snyder() -> Vec<SphereCase> {
     let degrees = [
         (LAT1, 29.5),

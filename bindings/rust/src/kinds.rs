@@ -197,8 +197,8 @@ projection!(LambertAzimuthalEqualArea: lat0);
 /// # Ok::<(), Refusal>(())
 /// ```
 ///
-/// On a sphere it has the sphere's own formulas, and no rounds: a point off the map is refused by 23,
-/// never by 22.
+/// On a sphere it has the sphere's own formulas, and no rounds: a point off the map is refused by 23
+/// there, never by 22 or 24.
 ///
 /// ```
 /// use lenthuc::{AlbersEqualArea, Projection, Refusal, UNIT_SPHERE};

@@ -1,3 +1,5 @@
+pub mod ArcsineBound
+pub mod HalfAngle
 mod Differences
 mod MantissaStep
 mod PatternUnits

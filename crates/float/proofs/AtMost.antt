@@ -37,7 +37,7 @@ at-most-of f k x t u h = record { sign = negative x; count = unit-count f x; is 
 pub at-most-more : {f : Format} {i j : ℕ} {x : Float} → i ≤ j → AtMost f i x → AtMost f j x
 at-most-more {f} {i} {j} h p = record { sign = p .sign; count = p .count; is = p .is; most = le-trans (p .most) (pow-mono (omega arith)) }
 
-power-representable : {p : ℕ} → 0 < p → (n : ℕ) → Representable p (2 ^ n)
+pub power-representable : {p : ℕ} → 0 < p → (n : ℕ) → Representable p (2 ^ n)
 power-representable P n = record { significand = 1; exponent = n; digits = lt-of-lt-of-le (le-refl 2) (pow-mono P); exact = sym (one-mul (2 ^ n)) }
 
 below-overflow : (f : Format) {n k : ℕ} → k ≤ emax f → n ≤ 2 ^ (low f + k) → n < overflow f

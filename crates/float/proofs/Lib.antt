@@ -42,5 +42,6 @@ pub mod Comparison
 pub mod UnitOrder
 pub mod SizeBound
 pub mod AtMost
+pub mod UpTo
 pub mod NotANumber
 pub mod Zero

@@ -10,3 +10,4 @@ mod Midpoint
 mod Tests
 pub mod Nearest
 pub mod NearestOnly
+pub mod Bounds
