@@ -1,10 +1,11 @@
 # shellcheck shell=bash disable=SC2154,SC2015
-# Builds in this repository, one at a time: read by ./lenthuc and tools/bundle. They set $me, their name, and $top, the
+# Builds in this repository, one at a time: read by ./lenthuc, tools/bundle and tools/ring-library. They set $me, their name, and $top, the
 # repository's folder. What others build is waited for; on a terminal the crates that are being proved are named; a signal
 # ends what was started.
 
 building=$top/target/building
 child='' link='' scratch=''
+rt=$(type -P rt) || rt=
 
 say() { printf '%s: %s\n' "$me" "$1" >&2; }
 
@@ -127,4 +128,32 @@ prove() {
     show ''
     [ "$status" -eq 0 ] || cat "$building/said" >&2
     return "$status"
+}
+
+# The identity of the kit that the rt at a path belongs to.
+identify() {
+    local kit=${RATTLE_HOME:-${1%/bin/rt}}
+    identity=
+    [ ! -f "$kit/KIT-ID" ] || read -r identity <"$kit/KIT-ID" || true
+}
+
+# What a build notes as it starts, for is_unchanged: the path of rt, its kit's identity, and these words; one a line.
+note_rt() {
+    rt=$(readlink -f "$rt")
+    identify "$rt"
+    printf '%s\n' "$rt" "$identity" "$@"
+}
+
+# NOTE FILE..: no source and none of these files has changed since a build made its note, and rt is the same. A machine without
+# rt takes what is built. Puts the note's lines into $known.
+is_unchanged() {
+    local note=$1 newer
+    shift
+    [ -f "$note" ] || return 1
+    mapfile -t known <"$note"
+    [ "${#known[@]}" -gt 1 ] || return 1
+    identify "${known[0]}"
+    [ -z "$rt" ] || [ "$rt" -ef "${known[0]}" ] && [ "$identity" = "${known[1]}" ] || return 1
+    newer=$(find "$top/crates.txt" "$top/crates" "$@" \( -newer "$note" -o -cnewer "$note" \) -print -quit 2>&1) || return 1
+    [ -z "$newer" ]
 }

@@ -1,8 +1,8 @@
 /*
  * IOGP 7-2's Cassini-Soldner example, Trinidad 1903 / Trinidad Grid, in Clarke's links: a projection that is built once, a
  * point forward and back, and a small column with a refused point in it; then projections that are refused, an atlas on a
- * sphere, an area of use across the 180 degree line, and a sheet. Checks its own answers: the exit status is 0 if all are right. It is C89, and C++
- * too.
+ * sphere, an area of use across the 180 degree line, the area of a catchment, and a sheet. Checks its own answers: the exit
+ * status is 0 if all are right. It is C89, and C++ too.
  */
 #include "lenthuc.h"
 
@@ -10,11 +10,12 @@
 #include <string.h>
 
 #define POINTS 4
+#define CORNERS 5
 
 static const double pi = 3.14159265358979323846;
 
 static struct lenthuc_settings settings;
-static struct lenthuc_projection trinidad, office, everywhere;
+static struct lenthuc_projection trinidad, office, everywhere, district;
 
 static int wrong = 0;
 
@@ -149,11 +150,14 @@ static int all_refused(const struct lenthuc_projection *projection, uint8_t numb
     const double u[2] = {-1.0, 0.5}, v[2] = {0.2, 9.0};
     double p[2] = {1.0, 2.0}, q[2] = {3.0, 4.0};
     uint8_t numbers[2] = {99, 99};
-    double x, y;
+    double x, y, area = 5.0;
+    size_t points = 6;
     int right = lenthuc_forward(projection, u[0], v[0], &x, &y) == number && is(x, 0, 0) && is(y, 0, 0);
     right = right && lenthuc_inverse(projection, u[0], v[0], &x, &y) == number && is(x, 0, 0) && is(y, 0, 0);
     right = right && lenthuc_inverse_column(projection, u, 1, v, 1, p, 1, q, 1, numbers, 1) == LENTHUC_ANSWERED;
     right = right && numbers[0] == number && is(p[0], 0, 0) && is(q[0], 0, 0);
+    right = right && lenthuc_ring_area(projection, u, 2, v, 2, p + 1, 1, q + 1, 1, &area, &points) == number;
+    right = right && is(area, 0, 0) && points == 0 && p[1] == 2.0 && q[1] == 4.0;
     right = right && lenthuc_forward_column(projection, u, 2, v, 2, p, 2, q, 2, numbers, 2) == LENTHUC_ANSWERED;
     return right && numbers[0] == number && numbers[1] == number && is(p[0], 0, 0) && is(p[1], 0, 0) && is(q[0], 0, 0) &&
            is(q[1], 0, 0);
@@ -289,6 +293,68 @@ static void refused_areas(void)
     check(number == LENTHUC_LINE_FORM && all_refused(&refused, number), "the kind c in a refused area");
 }
 
+/* The corners of a catchment, counterclockwise, in degrees; and buffers that are long enough for any five corners. */
+static const double corners[CORNERS][2] = {{6.05, 49.58}, {6.17, 49.57}, {6.21, 49.63}, {6.12, 49.67}, {6.04, 49.64}};
+static double eastings[CORNERS * LENTHUC_RING_ROOM], northings[CORNERS * LENTHUC_RING_ROOM];
+
+/* Measures the catchment on a map, the other way round if that is asked, with so many places of the buffers. */
+static uint8_t measure(const struct lenthuc_projection *map, int clockwise, size_t places, double *area, size_t *points)
+{
+    double lon[CORNERS], lat[CORNERS];
+    size_t i;
+    for (i = 0; i < CORNERS; i++) {
+        const double *corner = corners[clockwise ? CORNERS - 1 - i : i];
+        lon[i] = radians(corner[0]);
+        lat[i] = radians(corner[1]);
+    }
+    return lenthuc_ring_area(map, lon, CORNERS, lat, CORNERS, eastings, places, northings, places, area, points);
+}
+
+/* On a map about the catchment that keeps areas. Some edges are cut, so the ring has more points than corners. */
+static void a_catchment(void)
+{
+    const size_t places = CORNERS * LENTHUC_RING_ROOM;
+    struct lenthuc_settings about = {6378137.0, 1 / 298.257223563, 0.0, 0.0, 0.0, 0.0, 0.0, 0.0};
+    double area, turned, x, y;
+    size_t points;
+    about.lon0 = radians(6.13);
+    about.lat0 = radians(49.62);
+    check(lenthuc_build(LENTHUC_LAMBERT, &about, &district) == LENTHUC_ANSWERED, "the district's map");
+    check(measure(&district, 1, places, &turned, &points) == LENTHUC_ANSWERED, "the catchment, clockwise");
+    eastings[9] = 1.0;
+    northings[9] = 2.0;
+    check(measure(&district, 0, places, &area, &points) == LENTHUC_ANSWERED, "the catchment");
+    printf("a catchment: %.0f hectares, %d points\n", area / 10000.0, (int)points);
+    check(94839000.0 < area && area < 94840000.0, "the catchment's area");
+    check(-area - 0.001 < turned && turned < -area + 0.001, "its area, clockwise");
+    check(points == 9, "the catchment's points");
+    check(lenthuc_forward(&district, radians(6.05), radians(49.58), &x, &y) == LENTHUC_ANSWERED, "a corner");
+    check(same(x, eastings[0]) && same(y, northings[0]), "the first point");
+    check(eastings[9] == 1.0 && northings[9] == 2.0, "what stands after the points");
+}
+
+/* A Cassini-Soldner does not keep areas; and nine points have no room in eight places. The buffers stay as they are. */
+static void refused_rings(void)
+{
+    double area = 1.0;
+    size_t points = 1;
+    uint8_t number;
+    eastings[0] = 3.0;
+    northings[7] = 4.0;
+    number = measure(&trinidad, 0, 9, &area, &points);
+    printf("a catchment on a Cassini-Soldner: %s\n", lenthuc_words(number));
+    check(number == LENTHUC_RING_FORM && is(area, 0, 0) && points == 0, "a catchment on a Cassini-Soldner");
+    area = 1.0;
+    points = 1;
+    number = measure(&district, 0, 8, &area, &points);
+    printf("too short a buffer: %s\n", lenthuc_words(number));
+    check(number == LENTHUC_RING_RESULT && is(area, 0, 0) && points == 0, "too short a buffer");
+    check(eastings[0] == 3.0 && northings[7] == 4.0, "what the buffers of refused rings hold");
+    check(measure(&district, 0, 9, &area, &points) == LENTHUC_ANSWERED && points == 9, "buffers that are just long enough");
+    number = lenthuc_ring_area(&district, NULL, 0, NULL, 0, NULL, 0, NULL, 0, &area, &points);
+    check(number == LENTHUC_RING_FORM, "no corners");
+}
+
 /* Every number that a call may return has words of its own, and no other number has any. */
 static void words(void)
 {
@@ -296,7 +362,7 @@ static void words(void)
     for (i = 0; i < 256; i++) {
         const char *said = lenthuc_words((uint8_t)i);
         count += said != NULL;
-        check((said != NULL) == (i == 0 || (2 <= i && i <= 26) || i == 255), "a number's words");
+        check((said != NULL) == (i == 0 || (2 <= i && i <= 28) || i == 255), "a number's words");
         for (j = 0; j < i; j++) {
             const char *other = lenthuc_words((uint8_t)j);
             check(said == NULL || other == NULL || strcmp(said, other) != 0, "words that come twice");
@@ -339,6 +405,8 @@ int main(void)
     homes_of_the_area();
     an_edge();
     refused_areas();
+    a_catchment();
+    refused_rings();
     words();
     a_sheet();
     if (!wrong) {

@@ -22,10 +22,11 @@
  *
  * What holds of every call:
  *
- * - Angles are radians. Lengths have the unit of the semi-major axis a.
+ * - Angles are radians. Lengths have the unit of the semi-major axis a, and a ring's area has its square.
  * - The number that a call returns is 0 where it answers. Otherwise it says why not: enum lenthuc_number, lenthuc_words.
  *   A projection's refusal comes before its points'. Else, where several apply, the first in the order of that list is
- *   given, but for two: lat0 is checked by 7 and 8, then lat1, then lat2; and 26 comes before 18 and 19.
+ *   given, but for three: lat0 is checked by 7 and 8, then lat1, then lat2; 26 comes before 18 and 19; and a ring is checked
+ *   by 27, then point by point, then by 28.
  * - Where a point is refused its results are +0. Where it is answered they are finite.
  * - A double may have any of its 2^64 patterns. All NaN count as one, signalling ones too.
  * - A call ends whatever it is given, allocates nothing, and keeps nothing: the same arguments have the same answer, bit for
@@ -42,7 +43,7 @@
  *   or clang links with -Ofast or -ffast-math does not keep subnormal numbers, and some answers are then others.
  *
  * 'Proved' below is by Rattle, for every input: the definitions are those of crates/NAME/specs, where NAME is capi, ellipsoid,
- * kinds, packing, projection or sheet.
+ * kinds, packing, projection, ring or sheet.
  */
 #ifndef LENTHUC_H
 #define LENTHUC_H
@@ -69,8 +70,8 @@
 extern "C" {
 #endif
 
-/* The version of this header, 0.4.0. The archive tells its own by lenthuc_version: where they differ, do not use it. */
-#define LENTHUC_VERSION 400
+/* The version of this header, 0.5.0. The archive tells its own by lenthuc_version: where they differ, do not use it. */
+#define LENTHUC_VERSION 500
 
 /* The version of the archive, as LENTHUC_VERSION. */
 uint32_t lenthuc_version(void);
@@ -114,6 +115,8 @@ enum lenthuc_number {
     LENTHUC_INVERSE_BEYOND = 24,
     LENTHUC_AREA_EDGES = 25,
     LENTHUC_OUTSIDE_AREA = 26,
+    LENTHUC_RING_FORM = 27,
+    LENTHUC_RING_RESULT = 28,
     LENTHUC_UNEQUAL_LENGTHS = 255
 };
 
@@ -173,6 +176,10 @@ LENTHUC_INLINE const char *lenthuc_words(uint8_t number)
         return "the area of use has an edge that is not a finite number, a west or east beyond 180 degrees (pi), a south or north beyond 90 degrees (pi/2 + 1e-12), or a south above its north";
     case LENTHUC_OUTSIDE_AREA:
         return "the place lies outside the area of use";
+    case LENTHUC_RING_FORM:
+        return "the ring's lists have unequal lengths, it has fewer than 3 or more than 4,096 corners, or its projection is of another kind than L, S, A and E";
+    case LENTHUC_RING_RESULT:
+        return "a buffer is shorter than the ring's points, or the area worked out is not a finite number";
     case LENTHUC_UNEQUAL_LENGTHS:
         return "the columns have unequal lengths: nothing is read or written";
     default:
@@ -235,7 +242,7 @@ struct lenthuc_projection {
 
 /*
  * Builds a projection that has no area of use. Returns 0, or 2 to 15 but 3. A projection that was refused is filled too: it
- * answers every point by the number of its refusal, so a caller may leave the test to the first point.
+ * answers every point and every ring by the number of its refusal, so a caller may leave the test to the first of them.
  * Proved: the number is that of the projection's construction by the definition build, and what *projection then holds, by the
  * definition unpacked, is that construction.
  */
@@ -292,6 +299,50 @@ uint8_t lenthuc_forward_column(const struct lenthuc_projection *projection, cons
 uint8_t lenthuc_inverse_column(const struct lenthuc_projection *projection, const double *easting, size_t eastings,
                                const double *northing, size_t northings, double *LENTHUC_RESTRICT lon, size_t lons,
                                double *LENTHUC_RESTRICT lat, size_t lats, uint8_t *LENTHUC_RESTRICT numbers, size_t ns);
+
+/* The most corners that a ring may have; and places of a buffer for each corner that are always enough for a ring's points. */
+#define LENTHUC_RING_CORNERS 4096
+#define LENTHUC_RING_ROOM 1024
+
+/*
+ * The area of a ring, as the edge of a catchment is, on a map of kind L, S, A or E: these keep areas. lon and lat are its
+ * corners. The edge of a corner runs to the next one, and that of the last to the first. Returns 0, and puts the area into
+ * *area, the number of the ring's points into *points, and the points into the first places of the buffers easting and
+ * northing; later places stay as they are. Or returns another number, and puts +0 into *area and 0 into *points; both buffers
+ * then stay as they are.
+ *
+ * - The area is positive where the ring runs counterclockwise on the map, easting to the right and northing up, and negative
+ *   where it runs clockwise. A hole is a ring of its own: measure each ring alone, and subtract in size.
+ * - An edge is straight in longitude and latitude. It is no great circle, and not straight on the map. So it is cut at the
+ *   midpoint of its coordinates, and each half again, 10 times over at most. It is left uncut where this midpoint, on the
+ *   map, is at most 0.5 from the middle between its ends. The 0.5 has the unit of a: so give a in metres.
+ * - The ring's points are its corners and cut points, in ring order. The area is that of the polygon that they make on the
+ *   map.
+ * - Longitudes are taken as they are: from 3.1 to -3.1 an edge runs through 0. Across the 180 degree line write the eastern
+ *   corners a turn higher, as 3.18 for -3.1. And take a lon0 that is near: A and E tear the map along the meridian opposite
+ *   lon0, and the area of a ring across it means nothing.
+ * - A ring whose last corner repeats the first is taken as it is, with an edge of no length.
+ * - The area is summed of products of whole eastings and northings, so large false offsets cost it digits: prefer a
+ *   projection that has none.
+ * - A buffer of LENTHUC_RING_ROOM places for each corner is always long enough: an edge has at most 1,023 cut points. So no
+ *   ring has more than 4,194,304 points.
+ * - S keeps areas on a sphere alone: on the Earth's ellipsoid its areas are up to 0.9 % off.
+ *
+ * Other numbers than 0 are, in this order: that of the projection's refusal; 27; that of the first point that is refused, 16
+ * to 19, with an area of use also 26; 28. The points are worked out in this order: all corners; then edge by edge the
+ * midpoint, the first half, the second half. A midpoint may refuse the ring even where the edge would be left uncut. It is
+ * judged by the area of use as a corner is.
+ *
+ * Nothing is written before the area is known: every point is projected twice, and a corner once more. How near the area is
+ * to the one on the ground is not proved.
+ * Proved: the number, *area and *points are those of the definition ring-area, for the projection that the numbers hold by
+ * the definition unpacked, of any numbers; and both buffers then hold the points of the definition ring, and after them what
+ * stood there, or, of any refusal, all that stood there.
+ */
+uint8_t lenthuc_ring_area(const struct lenthuc_projection *projection, const double *lon, size_t lons, const double *lat,
+                          size_t lats, double *LENTHUC_RESTRICT easting, size_t eastings,
+                          double *LENTHUC_RESTRICT northing, size_t northings, double *LENTHUC_RESTRICT area,
+                          size_t *LENTHUC_RESTRICT points);
 
 /* The most bytes that a sheet may have; and room for the longest answer to a sheet. */
 #define LENTHUC_SHEET_LIMIT 65536

@@ -4,11 +4,18 @@ use crate::line::Answer;
 
 /// By number, 01's and 02's.
 #[derive(Default)]
-pub struct Count([usize; 27]);
+pub struct Count([usize; NUMBERS as usize]);
+
+/// They are below this.
+const NUMBERS: u8 = 29;
 
 impl Count {
     pub fn count(&mut self, answer: Answer) {
-        self.0[usize::from(answer.number)] += 1;
+        self.number(answer.number);
+    }
+
+    pub fn number(&mut self, number: u8) {
+        self.0[usize::from(number)] += 1;
     }
 
     pub fn of(&self, number: u8) -> usize {
@@ -21,7 +28,7 @@ impl Count {
 
     /// The numbers that came up.
     pub fn numbers(&self) -> Vec<u8> {
-        (0..27).filter(|&number| self.of(number) > 0).collect()
+        (0..NUMBERS).filter(|&number| self.of(number) > 0).collect()
     }
 
     /// Those, and how often.

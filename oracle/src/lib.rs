@@ -1,7 +1,7 @@
 //! What the Rattle code is held against: document 01's fixed functions in Rust, written from 01
 //! alone, the source's own files with those functions and with the platform's, document 02's Albers
-//! on a sphere beside them and its area of use over all, and what to try them on. No crate of a
-//! registry.
+//! on a sphere beside them, its area of use over all and its ring on top, and what to try them on. No
+//! crate of a registry.
 
 pub mod area;
 pub mod area_cases;
@@ -21,6 +21,10 @@ pub mod offices;
 pub mod ours;
 pub mod patterns;
 pub mod program;
+pub mod ring;
+pub mod ring_cases;
+pub mod ring_sample;
+pub mod rings;
 pub mod sharp;
 pub mod sheet;
 pub mod sheets;

@@ -3,6 +3,7 @@
 use crate::area::{Area, AreaLine};
 use crate::fixed;
 use crate::line::{Answer, Columns, Line};
+use crate::ring::{Ring, RingAnswer, lent};
 use crate::sphere;
 
 /// A projection as the archive's callers keep it.
@@ -151,6 +152,19 @@ unsafe extern "C" {
         numbers: *mut u8,
         ns: usize,
     ) -> u8;
+    fn lenthuc_ring_area(
+        projection: &Numbers,
+        lon: *const f64,
+        lons: usize,
+        lat: *const f64,
+        lats: usize,
+        easting: *mut f64,
+        eastings: usize,
+        northing: *mut f64,
+        northings: usize,
+        area: &mut f64,
+        points: &mut usize,
+    ) -> u8;
 }
 
 /// The projection of a line, and the number of its building.
@@ -283,4 +297,84 @@ fn column_by(way: u8, projection: &Numbers, u: &[f64], v: &[f64], filled: &mut C
     // SAFETY: it reads two slices and writes three others, each with its length.
     let said = unsafe { column(projection, u, us, v, vs, p, ps, q, qs, numbers, ns) };
     assert_eq!(said, 0, "the columns have one length");
+}
+
+/// The projection of a ring.
+fn built_for(ring: &Ring) -> (Numbers, u8) {
+    let (kind, settings) = (ring.kind, &ring.settings);
+    let mut projection = [f64::NAN; 36];
+    let number = match &ring.area {
+        None => lenthuc_build(kind, settings, &mut projection),
+        Some(area) => lenthuc_build_in_area(kind, settings, area, &mut projection),
+    };
+    (projection, number)
+}
+
+/// The answer to a ring, and the buffers after the call.
+pub fn ring(question: &Ring) -> RingAnswer {
+    let (projection, refused) = built_for(question);
+    let [lon, lat] = question.lons_and_lats();
+    let mut longer = question.buffers.map(|length| lent(length + BEHIND));
+    let (mut area, mut points) = (f64::NAN, usize::MAX);
+    let [easting, northing] = &mut longer;
+    let buffers = [
+        &mut easting[..question.buffers[0]],
+        &mut northing[..question.buffers[1]],
+    ];
+    let number = ring_by(&projection, [&lon, &lat], buffers, &mut area, &mut points);
+    assert!(
+        refused == 0 || refused == number,
+        "a refused projection gives its own number"
+    );
+    for (buffer, length) in longer.iter_mut().zip(question.buffers) {
+        let behind = buffer.split_off(length);
+        let mut places = behind.iter().zip(length as u64..);
+        let untouched = places.all(|(x, place)| x.to_bits() == place);
+        assert!(untouched, "nothing is written behind a buffer");
+    }
+    RingAnswer::new(number, area, points, &longer)
+}
+
+/// So many places behind a buffer are to stay as they are.
+const BEHIND: usize = 2;
+
+fn ring_by(
+    projection: &Numbers,
+    [lon, lat]: [&[f64]; 2],
+    [easting, northing]: [&mut [f64]; 2],
+    area: &mut f64,
+    points: &mut usize,
+) -> u8 {
+    let (lons, lats, es, ns) = (lon.len(), lat.len(), easting.len(), northing.len());
+    let (lon, lat) = (lon.as_ptr(), lat.as_ptr());
+    let (e, n) = (easting.as_mut_ptr(), northing.as_mut_ptr());
+    // SAFETY: it reads two slices and writes two others, each with its length, and two numbers.
+    unsafe { lenthuc_ring_area(projection, lon, lons, lat, lats, e, es, n, ns, area, points) }
+}
+
+/// A ring that is measured again and again, with what is built and lent for it.
+pub struct Lent {
+    projection: Numbers,
+    lists: [Vec<f64>; 2],
+    buffers: [Vec<f64>; 2],
+}
+
+impl Lent {
+    pub fn new(question: &Ring) -> Lent {
+        Lent {
+            projection: built_for(question).0,
+            lists: question.lons_and_lats(),
+            buffers: question.lent(),
+        }
+    }
+
+    /// The area, and how many points the buffers then start with.
+    pub fn measure(&mut self) -> (f64, usize) {
+        let (mut area, mut points) = (f64::NAN, 0);
+        let lists = self.lists.each_ref().map(|list| list.as_slice());
+        let buffers = self.buffers.each_mut().map(|buffer| buffer.as_mut_slice());
+        let number = ring_by(&self.projection, lists, buffers, &mut area, &mut points);
+        assert_eq!(number, 0, "the ring is answered");
+        (area, points)
+    }
 }

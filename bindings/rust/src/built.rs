@@ -4,6 +4,7 @@ use crate::area::Area;
 use crate::outcome::{Outcome, unknown};
 use crate::raw::{self, Numbers, Way};
 use crate::refusal::{Answer, Refusal, UnequalLengths};
+use crate::ring::RingArea;
 use crate::settings::Settings;
 use std::fmt;
 
@@ -57,6 +58,15 @@ impl Built {
             UnequalLengths::NUMBER => Err(UnequalLengths),
             number => unknown(number),
         }
+    }
+
+    pub(crate) fn ring_area(
+        &self,
+        corners: [&[f64]; 2],
+        buffers: [&mut [f64]; 2],
+    ) -> Result<RingArea, Refusal> {
+        let (outcome, area, points) = raw::ring_area(&self.numbers, corners, buffers);
+        outcome.result().map(|()| RingArea { area, points })
     }
 }
 

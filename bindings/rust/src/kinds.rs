@@ -7,6 +7,7 @@ use crate::outcome::Outcome;
 use crate::projection::{Projection, Sealed};
 use crate::raw::Way;
 use crate::refusal::{Answer, Refusal, UnequalLengths};
+use crate::ring::RingArea;
 use crate::settings::{Kind, Settings};
 use std::fmt;
 
@@ -110,6 +111,16 @@ macro_rules! projection {
             ) -> Result<(), UnequalLengths> {
                 self.0.column(Way::Inverse, [easting, northing], [lon, lat], outcomes)
             }
+
+            fn ring_area(
+                &self,
+                lon: &[f64],
+                lat: &[f64],
+                easting: &mut [f64],
+                northing: &mut [f64],
+            ) -> Result<RingArea, Refusal> {
+                self.0.ring_area([lon, lat], [easting, northing])
+            }
         }
     };
 }
@@ -118,7 +129,8 @@ macro_rules! projection {
 /// other origin.
 ///
 /// A point is refused by number 16, 17, 18 or 19 [forward](Projection::forward), and by 20, 23 or 24
-/// [back](Projection::inverse); with an [`Area`] also by 26, both ways.
+/// [back](Projection::inverse); with an [`Area`] also by 26, both ways. It keeps areas, and has
+/// [rings](Projection::ring): one is refused by 27, by a point's number forward, or by 28.
 #[derive(Clone, Copy, PartialEq)]
 pub struct LambertAzimuthalEqualArea(Built);
 
@@ -181,7 +193,8 @@ projection!(LambertAzimuthalEqualArea: lat0);
 /// Albers equal-area conic (EPSG method 9822).
 ///
 /// A point is refused by number 16, 17 or 19 [forward](Projection::forward), and by 20, 22, 23 or 24
-/// [back](Projection::inverse); with an [`Area`] also by 26, both ways.
+/// [back](Projection::inverse); with an [`Area`] also by 26, both ways. It keeps areas, and has
+/// [rings](Projection::ring): one is refused by 27, by a point's number forward, or by 28.
 ///
 /// ```
 /// use lenthuc::{AlbersEqualArea, CLARKE1866, Projection, Refusal};
@@ -255,7 +268,8 @@ projection!(AlbersEqualArea: lat0 lat1 lat2);
 /// Equal Earth (EPSG method 1078).
 ///
 /// A point is refused by number 16, 17 or 19 [forward](Projection::forward), and by 20, 22, 23 or 24
-/// [back](Projection::inverse); with an [`Area`] also by 26, both ways.
+/// [back](Projection::inverse); with an [`Area`] also by 26, both ways. It keeps areas, and has
+/// [rings](Projection::ring): one is refused by 27, by a point's number forward, or by 28.
 #[derive(Clone, Copy, PartialEq)]
 pub struct EqualEarth(Built);
 
@@ -286,7 +300,8 @@ projection!(EqualEarth:);
 /// Cassini-Soldner (EPSG method 9806).
 ///
 /// A point is refused by number 16, 17 or 19 [forward](Projection::forward), and by 20, 23 or 24
-/// [back](Projection::inverse); with an [`Area`] also by 26, both ways.
+/// [back](Projection::inverse); with an [`Area`] also by 26, both ways. It does not keep areas: every
+/// [ring](Projection::ring) is refused by 27.
 #[derive(Clone, Copy, PartialEq)]
 pub struct CassiniSoldner(Built);
 
@@ -320,7 +335,8 @@ projection!(CassiniSoldner: lat0);
 /// American polyconic (EPSG method 9818).
 ///
 /// A point is refused by number 16, 17 or 19 [forward](Projection::forward), and by 20, 21, 22, 23 or
-/// 24 [back](Projection::inverse); with an [`Area`] also by 26, both ways.
+/// 24 [back](Projection::inverse); with an [`Area`] also by 26, both ways. It does not keep areas:
+/// every [ring](Projection::ring) is refused by 27.
 #[derive(Clone, Copy, PartialEq)]
 pub struct AmericanPolyconic(Built);
 
@@ -354,7 +370,8 @@ projection!(AmericanPolyconic: lat0);
 /// Guam projection (EPSG method 9831), for an island.
 ///
 /// A point is refused by number 16, 17 or 19 [forward](Projection::forward), and by 20, 23 or 24
-/// [back](Projection::inverse); with an [`Area`] also by 26, both ways.
+/// [back](Projection::inverse); with an [`Area`] also by 26, both ways. It does not keep areas: every
+/// [ring](Projection::ring) is refused by 27.
 #[derive(Clone, Copy, PartialEq)]
 pub struct GuamProjection(Built);
 

@@ -26,7 +26,7 @@
 //! ```
 //!
 //! Angles are radians but in the functions named for degrees. Eastings and northings have the unit
-//! of the ellipsoid's semi-major axis.
+//! of the ellipsoid's semi-major axis, and a ring's area has its square.
 //!
 //! # One point, or many
 //!
@@ -66,10 +66,42 @@
 //! as it is. So an edge that is not normalised may leave out the places on it: [`Area`] says more.
 //! [`Area::from_degrees`] normalises.
 //!
+//! # The area of a catchment
+//!
+//! [`Projection::ring`] takes the corners of a ring, longitudes and latitudes, and gives its area and
+//! its points on the map. Lambert, Albers and Equal Earth keep areas and have rings; the others refuse
+//! them. [`Projection::ring_area`] does the same with buffers that are lent, and allocates nothing.
+//!
+//! ```
+//! use lenthuc::{LambertAzimuthalEqualArea, Projection, Refusal, WGS84};
+//!
+//! // A school's catchment, in degrees, on a map about it.
+//! let corners = [(6.05, 49.58), (6.17, 49.57), (6.21, 49.63), (6.12, 49.67), (6.04, 49.64)];
+//! let corners = corners.map(|(lon, lat): (f64, f64)| (lon.to_radians(), lat.to_radians()));
+//! let [lon0, lat0] = [6.13, 49.62].map(f64::to_radians);
+//! let map = LambertAzimuthalEqualArea::new(WGS84, lon0, lat0, 0.0, 0.0)?;
+//!
+//! let ring = map.ring(&corners)?;
+//! assert_eq!(format!("{:.0} hectares", ring.area / 1e4), "9484 hectares");
+//!
+//! // Five corners, and the points where edges are cut: an edge that is straight in longitude and
+//! // latitude is not so on the map.
+//! assert_eq!(ring.points.len(), 9);
+//! assert_eq!(Ok(ring.points[0]), map.forward_degrees(6.05, 49.58));
+//!
+//! // The sign says which way round the corners are given.
+//! let clockwise: Vec<_> = corners.into_iter().rev().collect();
+//! assert!(map.ring(&clockwise)?.area < 0.0);
+//! # Ok::<(), Refusal>(())
+//! ```
+//!
+//! [`Ring`] says what an edge is, how a ring across the 180° line is written, and what to do with
+//! holes and false offsets.
+//!
 //! # What to rely on
 //!
 //! - Any `f64` may be handed to any function, whatever its bits. Every call ends.
-//! - An answer's coordinates are finite.
+//! - An answer's coordinates are finite, and so is a ring's area.
 //! - No call changes a projection, so threads can share one.
 //! - The thread's floating-point environment must be the default one, as Rust demands of all code. A
 //!   C library that was linked with `-ffast-math` may change it.
@@ -93,6 +125,7 @@ mod projection;
 #[allow(unsafe_code)]
 mod raw;
 mod refusal;
+mod ring;
 mod settings;
 
 // The README's example is run with the others.
@@ -135,3 +168,4 @@ pub use kinds::{
 pub use outcome::Outcome;
 pub use projection::Projection;
 pub use refusal::{Answer, Refusal, UnequalLengths};
+pub use ring::{RING_CORNERS, RING_ROOM, Ring, RingArea};

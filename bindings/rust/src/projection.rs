@@ -1,7 +1,8 @@
 //! What the projections have in common.
 
 use crate::outcome::Outcome;
-use crate::refusal::{Answer, UnequalLengths};
+use crate::refusal::{Answer, Refusal, UnequalLengths};
+use crate::ring::{self, Ring, RingArea};
 use std::fmt::Debug;
 use std::sync::Arc;
 
@@ -32,7 +33,7 @@ pub trait Sealed {}
 /// The trait is sealed: its six types are this crate's, and no other crate can add one.
 ///
 /// ```compile_fail,E0277
-/// use lenthuc::{Answer, Outcome, Projection, UnequalLengths};
+/// use lenthuc::{Answer, Outcome, Projection, Refusal, RingArea, UnequalLengths};
 ///
 /// #[derive(Debug)]
 /// struct Mine;
@@ -53,6 +54,11 @@ pub trait Sealed {}
 ///         &self, _: &[f64], _: &[f64], _: &mut [f64], _: &mut [f64], _: &mut [Outcome],
 ///     ) -> Result<(), UnequalLengths> {
 ///         Ok(())
+///     }
+///     fn ring_area(
+///         &self, _: &[f64], _: &[f64], _: &mut [f64], _: &mut [f64],
+///     ) -> Result<RingArea, Refusal> {
+///         Ok(RingArea { area: 0.0, points: 0 })
 ///     }
 /// }
 /// ```
@@ -138,6 +144,50 @@ pub trait Projection: Sealed + Debug + Send + Sync {
         outcomes: &mut [Outcome],
     ) -> Result<(), UnequalLengths>;
 
+    /// The area of a ring, as the edge of a catchment is, by the longitudes and latitudes of its corners.
+    /// [`Ring`] says what an edge is and where it is cut.
+    ///
+    /// The points, which are the corners and the cut points in ring order, go into the first places of
+    /// `easting` and `northing`. The places after them stay as they are. A buffer of [`RING_ROOM`]
+    /// places for each corner is always long enough; the two may have unequal lengths. Allocates
+    /// nothing. [`ring`](Projection::ring) lends the buffers itself.
+    ///
+    /// # Errors
+    ///
+    /// In this order, and both buffers stay as they are:
+    ///
+    /// - 27, [`Refusal::RingForm`]: Cassini-Soldner, polyconic and Guam refuse every ring so
+    /// - 16, 17, 26, 18 or 19, of the first point that [`forward`](Projection::forward) refuses: all
+    ///   corners come first, then edge by edge the midpoint, the first half, the second half
+    /// - 28, [`Refusal::RingResult`]
+    ///
+    /// ```
+    /// use lenthuc::{LambertAzimuthalEqualArea, Projection, Refusal, RING_ROOM, WGS84};
+    ///
+    /// let map = LambertAzimuthalEqualArea::new(WGS84, 0.1, 0.9, 0.0, 0.0)?;
+    /// let (lon, lat) = ([0.098, 0.102, 0.1], [0.899, 0.899, 0.902]);
+    /// let (mut easting, mut northing) = ([9.0; 3 * RING_ROOM], [9.0; 3 * RING_ROOM]);
+    /// let ring = map.ring_area(&lon, &lat, &mut easting, &mut northing)?;
+    /// assert_eq!(ring.points, 12);
+    /// assert_eq!(Ok((easting[0], northing[0])), map.forward(0.098, 0.899));
+    /// assert_eq!((easting[12], northing[12]), (9.0, 9.0));
+    ///
+    /// let short = map.ring_area(&lon, &lat, &mut easting[..11], &mut northing);
+    /// assert_eq!(short, Err(Refusal::RingResult));
+    /// let two = map.ring_area(&lon[1..], &lat[1..], &mut easting, &mut northing);
+    /// assert_eq!(two, Err(Refusal::RingForm));
+    /// # Ok::<(), Refusal>(())
+    /// ```
+    ///
+    /// [`RING_ROOM`]: crate::RING_ROOM
+    fn ring_area(
+        &self,
+        lon: &[f64],
+        lat: &[f64],
+        easting: &mut [f64],
+        northing: &mut [f64],
+    ) -> Result<RingArea, Refusal>;
+
     /// The easting and northing of a longitude and latitude in degrees: those of
     /// [`forward`](Projection::forward) for the angles that [`f64::to_radians`] makes of them, which
     /// rounds once more. 90 and 180 degrees become the constants `FRAC_PI_2` and `PI`.
@@ -197,6 +247,33 @@ pub trait Projection: Sealed + Debug + Send + Sync {
             self.inverse_column(u, v, p, q, outcomes)
         })
     }
+
+    /// The area and the points of a ring, by its corners, each a longitude and latitude:
+    /// [`ring_area`](Projection::ring_area) with buffers that are always long enough. While it works
+    /// they take up to 16 KiB for each corner, 64 MiB at most, of which only the part that the points
+    /// fill need be touched.
+    ///
+    /// ```
+    /// use lenthuc::{CassiniSoldner, EqualEarth, Projection, Refusal, WGS84};
+    ///
+    /// let corners = [(0.1, 0.8), (0.101, 0.8), (0.101, 0.801), (0.1, 0.801)];
+    /// let ring = EqualEarth::new(WGS84, 0.0, 0.0, 0.0)?.ring(&corners)?;
+    /// assert_eq!(format!("{:.1} km²", ring.area / 1e6), "28.3 km²");
+    ///
+    /// let cassini = CassiniSoldner::new(WGS84, 0.0, 0.0, 0.0, 0.0)?;
+    /// assert_eq!(cassini.ring(&corners), Err(Refusal::RingForm));
+    /// # Ok::<(), Refusal>(())
+    /// ```
+    ///
+    /// # Errors
+    ///
+    /// Those of [`ring_area`](Projection::ring_area). 28, [`Refusal::RingResult`], can only mean that
+    /// the area is not a finite number.
+    fn ring(&self, corners: &[(f64, f64)]) -> Result<Ring, Refusal> {
+        ring::with_buffers(corners, |lon, lat, easting, northing| {
+            self.ring_area(lon, lat, easting, northing)
+        })
+    }
 }
 
 /// The answers to points by a function of columns.
@@ -247,6 +324,16 @@ macro_rules! pointers {
                 outcomes: &mut [Outcome],
             ) -> Result<(), UnequalLengths> {
                 (**self).inverse_column(easting, northing, lon, lat, outcomes)
+            }
+
+            fn ring_area(
+                &self,
+                lon: &[f64],
+                lat: &[f64],
+                easting: &mut [f64],
+                northing: &mut [f64],
+            ) -> Result<RingArea, Refusal> {
+                (**self).ring_area(lon, lat, easting, northing)
             }
         }
     )*};

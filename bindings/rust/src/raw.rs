@@ -84,6 +84,19 @@ unsafe extern "C" {
         numbers: *mut Outcome,
         ns: usize,
     ) -> u8;
+    fn lenthuc_ring_area(
+        projection: &Numbers,
+        lon: *const f64,
+        lons: usize,
+        lat: *const f64,
+        lats: usize,
+        easting: *mut f64,
+        eastings: usize,
+        northing: *mut f64,
+        northings: usize,
+        area: &mut f64,
+        points: &mut usize,
+    ) -> Outcome;
 }
 
 /// Forward from a longitude and latitude, or back from an easting and northing.
@@ -170,4 +183,34 @@ pub(crate) fn column(
             outcomes.len(),
         )
     }
+}
+
+/// Of a ring, its area, and how many points stand at the buffers' start; of a refusal +0 and 0, and
+/// both buffers as they were.
+pub(crate) fn ring_area(
+    projection: &Numbers,
+    [lon, lat]: [&[f64]; 2],
+    [easting, northing]: [&mut [f64]; 2],
+) -> (Outcome, f64, usize) {
+    let (mut area, mut points) = (0.0, 0);
+    // SAFETY: each pointer and the length after it are of one slice. The function reads lon and lat
+    // and writes easting and northing, each within its length, and area and points, and keeps no
+    // pointer; the borrows say that the written ones overlap nothing else. It tests the lengths
+    // itself.
+    let outcome = unsafe {
+        lenthuc_ring_area(
+            projection,
+            lon.as_ptr(),
+            lon.len(),
+            lat.as_ptr(),
+            lat.len(),
+            easting.as_mut_ptr(),
+            easting.len(),
+            northing.as_mut_ptr(),
+            northing.len(),
+            &mut area,
+            &mut points,
+        )
+    };
+    (outcome, area, points)
 }

@@ -13,7 +13,8 @@ macro_rules! refusals {
         /// Why there is no answer.
         ///
         /// Where several apply, the first is given: by [`number`](Refusal::number), but latitude
-        /// setting by latitude setting, and 26 before 18 and 19.
+        /// setting by latitude setting, and 26 before 18 and 19. A ring is checked by 27, then point by
+        /// point, then by 28.
         #[derive(Clone, Copy, Debug, PartialEq, Eq, Hash)]
         #[non_exhaustive]
         #[repr(u8)]
@@ -47,8 +48,8 @@ macro_rules! refusals {
     };
 }
 
-// The rows of docs/refusals.txt whose numbers a point or a setting can get through this crate. A
-// letter that names no kind, 2, cannot be written with its types.
+// The rows of docs/refusals.txt whose numbers a setting, a point or a ring can get through this
+// crate. A letter that names no kind, 2, cannot be written with its types.
 refusals! {
     InverseFlattening = 3, "the inverse flattening (1/f) is not a finite number above 1";
     SemiMajorAxis = 4, "the semi-major axis (a) is not a finite number above 0";
@@ -74,6 +75,8 @@ refusals! {
     InverseBeyond = 24, "the latitude worked out is beyond 90 degrees (pi/2 + 1e-12)";
     AreaEdges = 25, "the area of use has an edge that is not a finite number, a west or east beyond 180 degrees (pi), a south or north beyond 90 degrees (pi/2 + 1e-12), or a south above its north";
     OutsideArea = 26, "the place lies outside the area of use";
+    RingForm = 27, "the ring's lists have unequal lengths, it has fewer than 3 or more than 4,096 corners, or its projection is of another kind than L, S, A and E";
+    RingResult = 28, "a buffer is shorter than the ring's points, or the area worked out is not a finite number";
 }
 
 impl fmt::Display for Refusal {

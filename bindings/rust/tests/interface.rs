@@ -1,6 +1,6 @@
 //! What `lenthuc.h` says and no type of the crate can ask: the version, any letter, projections that
-//! are refused or that no one built, areas that no one checked, results of refusals, pointers of
-//! length 0.
+//! are refused or that no one built, areas that no one checked, results of refusals, a ring's too,
+//! and pointers of length 0.
 
 mod common;
 
@@ -56,6 +56,19 @@ unsafe extern "C" {
         qs: usize,
         numbers: *mut u8,
         ns: usize,
+    ) -> u8;
+    fn lenthuc_ring_area(
+        map: &Numbers,
+        lon: *const f64,
+        lons: usize,
+        lat: *const f64,
+        lats: usize,
+        easting: *mut f64,
+        eastings: usize,
+        northing: *mut f64,
+        northings: usize,
+        area: &mut f64,
+        points: &mut usize,
     ) -> u8;
 }
 
@@ -131,6 +144,37 @@ fn answers(map: &Numbers) -> [[Bits; 3]; 2] {
 /// What a projection that was refused answers: its number to every point, and +0.
 fn refused(number: u8) -> [[Bits; 3]; 2] {
     [[(number, 0, 0); 3]; 2]
+}
+
+/// A ring's number, the pattern of its area and the number of its points, which hold others before. The
+/// buffers, which have so many places, hold NaN before; of a refusal they do after, and else the places
+/// after the points do.
+fn ring(map: &Numbers, lon: &[f64], lat: &[f64], places: usize) -> (u8, u64, usize) {
+    let (mut easting, mut northing) = (vec![f64::NAN; places], vec![f64::NAN; places]);
+    let (mut area, mut points) = (f64::NAN, usize::MAX);
+    // SAFETY: each pointer and the length after it are of one slice.
+    let number = unsafe {
+        lenthuc_ring_area(
+            map,
+            lon.as_ptr(),
+            lon.len(),
+            lat.as_ptr(),
+            lat.len(),
+            easting.as_mut_ptr(),
+            places,
+            northing.as_mut_ptr(),
+            places,
+            &mut area,
+            &mut points,
+        )
+    };
+    assert!(number == 0 || (area.to_bits(), points) == (0, 0));
+    let written = |buffer: &[f64]| buffer.iter().take_while(|place| place.is_finite()).count();
+    for buffer in [easting, northing] {
+        assert_eq!(written(&buffer), points);
+        assert!(buffer[points..].iter().all(|place| place.is_nan()));
+    }
+    (number, area.to_bits(), points)
 }
 
 /// The archive's version is the header's and the crate's.
@@ -269,6 +313,65 @@ fn areas_in_their_order() {
         let (number, map) = build_in(sound, kind, EARTH);
         assert_eq!(number, 0);
         assert_eq!(answers(&map), answers(&build(kind, EARTH).1));
+    }
+}
+
+/// A projection that was refused, or that is none, answers every ring by its own number, before the
+/// lists and the corners are looked at.
+#[test]
+fn rings_of_refused_projections() {
+    let sphere = [1.0, 0.0, 0.0, 0.0, 0.0, 0.0, 0.0, 0.0];
+    let mut maps = vec![
+        build(b'x', EARTH),
+        build(b'G', sphere),
+        build_in([f64::NAN; 4], b'A', EARTH),
+        build_in([f64::NAN; 4], b'C', EARTH),
+        (LINE_FORM, [0.0; 36]),
+        (LINE_FORM, [f64::NAN; 36]),
+    ];
+    for kind in KINDS {
+        for place in [0, 1, 2, 6, 7] {
+            let mut settings = EARTH;
+            settings[place] = f64::NAN;
+            maps.push(build(kind, settings));
+        }
+    }
+    let (list, nan) = ([0.2, 0.3, 0.25], [f64::NAN; 3]);
+    for (number, map) in maps {
+        assert!((2..=25).contains(&number));
+        for (lon, lat) in [
+            (&list[..], &list[..]),
+            (&nan, &nan),
+            (&list[1..], &list),
+            (&[], &[]),
+        ] {
+            for places in [0, 2, 3072] {
+                assert_eq!(ring(&map, lon, lat, places), (number, 0, 0));
+            }
+        }
+    }
+}
+
+/// The results of a ring's refusals are +0 and 0, and the buffers are as they were.
+#[test]
+fn rings_that_are_refused() {
+    let (lon, lat) = ([0.2, 0.3, 0.25], [0.6, 0.6, 0.7]);
+    for kind in KINDS {
+        let (_, map) = build(kind, EARTH);
+        let (_, in_area) = build_in([0.1, 0.4, 0.5, 0.65], kind, EARTH);
+        assert_eq!(ring(&map, &lon[1..], &lat, 3072), (27, 0, 0));
+        if b"CPG".contains(&kind) {
+            assert_eq!(ring(&map, &lon, &lat, 3072), (27, 0, 0));
+            assert_eq!(ring(&in_area, &lon, &lat, 3072), (27, 0, 0));
+            continue;
+        }
+        let (number, area, points) = ring(&map, &lon, &lat, 3072);
+        assert!(number == 0 && f64::from_bits(area) > 1e9 && points > 3);
+        assert_eq!(ring(&map, &lon, &lat, points), (0, area, points));
+        assert_eq!(ring(&map, &lon, &lat, points - 1), (28, 0, 0));
+        assert_eq!(ring(&map, &lon, &[0.6, 0.6, f64::NAN], 3072), (16, 0, 0));
+        assert_eq!(ring(&map, &lon, &[0.6, 2.0, 0.7], 3072), (17, 0, 0));
+        assert_eq!(ring(&in_area, &lon, &lat, 3072), (26, 0, 0));
     }
 }
 
@@ -453,6 +556,9 @@ fn damaged_projections() {
                         "{built:?} {place} {x:e}"
                     );
                 }
+                let lon = [0.2, 0.201, 0.2];
+                let (_, area, _) = ring(&map, &lon, &[0.6, 0.6, 0.601], 3072);
+                assert!(f64::from_bits(area).is_finite());
             }
         }
     }
@@ -495,6 +601,35 @@ fn null_of_length_0() {
                 };
                 assert_eq!(said, 0);
             }
+        }
+    }
+}
+
+/// So it is a list or a buffer of a ring, which has no corners then: 27, or the projection's number.
+#[test]
+fn null_of_a_ring() {
+    let (list, buffer) = (ptr::null(), ptr::null_mut());
+    for kind in KINDS {
+        for (settings, expected) in [(EARTH, 27), ([f64::NAN; 8], 4)] {
+            let (_, map) = build(kind, settings);
+            let (mut area, mut points) = (f64::NAN, 9);
+            // SAFETY: of length 0 nothing is read or written.
+            let number = unsafe {
+                lenthuc_ring_area(
+                    &map,
+                    list,
+                    0,
+                    list,
+                    0,
+                    buffer,
+                    0,
+                    buffer,
+                    0,
+                    &mut area,
+                    &mut points,
+                )
+            };
+            assert_eq!((number, area.to_bits(), points), (expected, 0, 0));
         }
     }
 }

@@ -159,6 +159,27 @@ fn of_areas() {
     }
 }
 
+#[test]
+fn of_rings() {
+    let corners = [(0.2, 0.6), (0.3, 0.6), (0.2, 0.7)];
+    for kind in KINDS {
+        let map = build(kind, EARTH).expect("a map of the Earth");
+        assert_eq!(map.ring(&corners[1..]), Err(Refusal::RingForm));
+        let (lon, lat) = (
+            corners.map(|corner| corner.0),
+            corners.map(|corner| corner.1),
+        );
+        let short = map.ring_area(&lon, &lat, &mut [], &mut []);
+        if b"LSAE".contains(&kind) {
+            assert!(map.ring(&corners).is_ok());
+            assert_eq!(short, Err(Refusal::RingResult));
+        } else {
+            assert_eq!(map.ring(&corners), Err(Refusal::RingForm));
+            assert_eq!(short, Err(Refusal::RingForm));
+        }
+    }
+}
+
 /// Each kind refuses by the numbers that its documents list, and by no others: with an area by 25 and 26
 /// too, and without one never.
 #[test]
@@ -215,23 +236,23 @@ fn of_each_kind_alone() {
     }
 }
 
-/// Numbers name refusals and refusals have numbers, 3 to 26, and no other number is one.
+/// Numbers name refusals and refusals have numbers, 3 to 28, and no other number is one.
 #[test]
 fn by_number() {
     for number in 0..=u8::MAX {
         let named = Refusal::from_number(number);
-        assert_eq!(named.is_some(), (3..=26).contains(&number), "{number}");
+        assert_eq!(named.is_some(), (3..=28).contains(&number), "{number}");
         assert_eq!(named.map(Refusal::number), named.map(|_| number));
     }
 }
 
 #[test]
 fn as_errors() {
-    let messages: HashSet<_> = (3..=26)
+    let messages: HashSet<_> = (3..=28)
         .filter_map(Refusal::from_number)
         .map(|refusal| refusal.to_string())
         .collect();
-    assert_eq!(messages.len(), 24, "each has its own message");
+    assert_eq!(messages.len(), 26, "each has its own message");
     assert!(messages.iter().all(|message| message.len() > 20));
     let boxed: Box<dyn Error + Send + Sync> = Box::new(Refusal::Antipode);
     assert_eq!(boxed.downcast_ref(), Some(&Refusal::Antipode));

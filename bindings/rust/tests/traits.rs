@@ -6,7 +6,8 @@ mod common;
 use common::{EARTH, KINDS, Random, WAYS, area, bits, build, build_in, project};
 use lenthuc::{
     AlbersEqualArea, AmericanPolyconic, Answer, Area, CassiniSoldner, Ellipsoid, EqualEarth,
-    GuamProjection, LambertAzimuthalEqualArea, Outcome, Projection, Refusal, UnequalLengths, WGS84,
+    GuamProjection, LambertAzimuthalEqualArea, Outcome, Projection, Refusal, Ring, RingArea,
+    UnequalLengths, WGS84,
 };
 use std::error::Error;
 use std::fmt::Debug;
@@ -42,6 +43,13 @@ fn all_methods<P: Projection + ?Sized>(map: &P) -> String {
         };
         assert_eq!(few, Err(UnequalLengths));
     }
+    let (lon, lat) = ([0.2, 0.21, 0.2], [0.6, 0.6, 0.605]);
+    let (mut easting, mut northing) = ([f64::NAN; 99], [f64::NAN; 99]);
+    let ring = map.ring_area(&lon, &lat, &mut easting, &mut northing);
+    say(ring.map(|ring| (ring.area, ring.points as f64)));
+    let corners = [(lon[0], lat[0]), (lon[1], lat[1]), (lon[2], lat[2])];
+    let ring = map.ring(&corners);
+    say(ring.map(|ring| (ring.area, ring.points.iter().map(|(x, y)| x + y).sum())));
     said + &format!("{map:?}")
 }
 
@@ -55,7 +63,7 @@ fn pointers_project() {
     for kind in KINDS {
         let map = build(kind, EARTH).expect("a map of the Earth");
         let expected = all_methods(&*map);
-        assert_eq!(expected.lines().count(), 13);
+        assert_eq!(expected.lines().count(), 15);
         let dynamic: &dyn Projection = &*map;
         assert_eq!(by_value(dynamic), expected);
         assert_eq!(by_value(&dynamic), expected);
@@ -81,12 +89,17 @@ fn types_are_plain_values() {
     plain(WGS84);
     plain(Outcome::ANSWERED);
     plain(Area::from_degrees(1.0, 2.0, 3.0, 4.0));
+    plain(RingArea {
+        area: 1.0,
+        points: 3,
+    });
     plain(LambertAzimuthalEqualArea::new(WGS84, 0.0, 0.0, 0.0, 0.0));
     plain(AlbersEqualArea::new(WGS84, 0.0, 0.0, 0.5, 0.5, 0.0, 0.0));
     plain(EqualEarth::new(WGS84, 0.0, 0.0, 0.0));
     plain(CassiniSoldner::new(WGS84, 0.0, 0.0, 0.0, 0.0));
     plain(AmericanPolyconic::new(WGS84, 0.0, 0.0, 0.0, 0.0));
     plain(GuamProjection::new(WGS84, 0.0, 0.0, 0.0, 0.0));
+    shared::<Ring>();
     shared::<dyn Projection>();
     shared::<Box<dyn Projection>>();
     shared::<&dyn Projection>();

@@ -1,4 +1,4 @@
--- A refusal's number is never 0, so a call gives 0 exactly where it answers: whatever is built, and a point by any numbers.
+-- A refusal's number is never 0, so a call gives 0 exactly where it answers: whatever is built, and a point or a ring by any numbers.
 use Prim.Native.Nat.{ℕ}
 use mathlib.Core.Path.{_≡_}
 use mathlib.Core.Bool.{Bool, true, false, cond}
@@ -13,6 +13,9 @@ use Rattle.letters.specs.declared.Way.{Way}
 use Rattle.kinds.specs.Kinds as kinds
 use Rattle.kinds.specs.declared.Built.the-variants as built
 use Rattle.kinds.proofs.NeverZero as of-kinds
+use Rattle.ring.specs.Ring.{ring-area}
+use Rattle.ring.specs.declared.RingArea.the-variants as ring
+use Rattle.ring.proofs.NeverZero as of-rings
 use Rattle.packing.specs.Packing.{at, unpacked}
 use Rattle.packing.proofs.NeverZero.{unpacked-never-zero}
 use Rattle.capi.specs.Building.{settings, build, edges, build-in-area}
@@ -31,3 +34,6 @@ build-in-area-never-zero kind l area = of-kinds.with-area-never-zero (build kind
 
 pub answer-never-zero : (way : Way) (l : List Float) (u v : Float) → NeverZero Refused (kinds.answer way (unpacked l) u v)
 answer-never-zero way l u v = of-kinds.answer-never-zero way (unpacked l) u v (unpacked-never-zero l)
+
+pub ring-never-zero : (l lon lat : List Float) (eastings northings : ℕ) → NeverZero ring.Refused (ring-area (unpacked l) lon lat eastings northings)
+ring-never-zero l lon lat eastings northings = of-rings.ring-never-zero (unpacked l) (unpacked-never-zero l) lon lat eastings northings

@@ -4,5 +4,6 @@ mod columns;
 mod ellipsoids;
 mod longitudes;
 mod points;
+mod rings;
 mod sheets;
 mod version;

@@ -105,6 +105,14 @@ AREA-EDGES = 25
 abbrev pub OUTSIDE-AREA : ℕ
 OUTSIDE-AREA = 26
 
+-- the ring's lists have unequal lengths, it has fewer than 3 or more than 4,096 corners, or its projection is of another kind than L, S, A and E
+abbrev pub RING-FORM : ℕ
+RING-FORM = 27
+
+-- a buffer is shorter than the ring's points, or the area worked out is not a finite number
+abbrev pub RING-RESULT : ℕ
+RING-RESULT = 28
+
 -- the columns have unequal lengths: nothing is read or written
 abbrev pub UNEQUAL-LENGTHS : ℕ
 UNEQUAL-LENGTHS = 255

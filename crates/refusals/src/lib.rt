@@ -78,5 +78,11 @@ pub const AREA_EDGES: u8 = 25;
 // The place lies outside the area of use.
 pub const OUTSIDE_AREA: u8 = 26;
 
+// The ring's lists have unequal lengths, it has fewer than 3 or more than 4,096 corners, or its projection is of another kind than L, S, A and E.
+pub const RING_FORM: u8 = 27;
+
+// A buffer is shorter than the ring's points, or the area worked out is not a finite number.
+pub const RING_RESULT: u8 = 28;
+
 // The columns have unequal lengths: nothing is read or written.
 pub const UNEQUAL_LENGTHS: u8 = 255;

@@ -39,28 +39,41 @@ fn with_area(values: Values, area: Area, handed_in: bool) -> Projection {
     p.with_area(area)
 }
 
-// The area of the last four fields.
-fn of_edges(values: Values, text: &[u8], handed_in: bool) -> Reply {
+// The area of the four fields after a value line.
+pub(crate) enum Edges {
+    Read(Area),
+    Malformed,
+}
+
+pub(crate) fn read_edges(text: &[u8]) -> Edges {
     let Hex::Bits(west) = read_hex(field(text, 12)) else {
-        return Reply::None;
+        return Edges::Malformed;
     };
     let Hex::Bits(east) = read_hex(field(text, 13)) else {
-        return Reply::None;
+        return Edges::Malformed;
     };
     let Hex::Bits(south) = read_hex(field(text, 14)) else {
-        return Reply::None;
+        return Edges::Malformed;
     };
     let Hex::Bits(north) = read_hex(field(text, 15)) else {
-        return Reply::None;
+        return Edges::Malformed;
     };
-    let area = Area {
+    Edges::Read(Area {
         west: f64_of(west),
         east: f64_of(east),
         south: f64_of(south),
         north: f64_of(north),
-    };
+    })
+}
+
+fn of_edges(values: Values, text: &[u8], handed_in: bool) -> Reply {
     let way = values.way;
-    of_answer(answer(way, with_area(values, area, handed_in), values.u, values.v))
+    match read_edges(text) {
+        Edges::Read(area) => {
+            of_answer(answer(way, with_area(values, area, handed_in), values.u, values.v))
+        }
+        Edges::Malformed => Reply::None,
+    }
 }
 
 // To a value line with four edges after it.

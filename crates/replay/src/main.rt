@@ -12,6 +12,7 @@ mod line;
 mod list;
 mod question;
 mod reply;
+mod rings;
 
 ghost use mathlib.Core.Path.{_≡_};
 ghost use Prim.Native.Nat.{_+_, _≤_};

@@ -2,6 +2,9 @@
 // - a value line of a sheet, answered by the sheet's answer line: `F,P,3ff0000000000000,.. 0,3fe0000000000000,..`;
 // - `area,` and a value line with west, east, south and north after it: the same by a projection built with that area; or
 //   `handed,` and the same: the area is put into the projection unchecked;
+// - `ring,` and a value line whose u and v are the lengths of the lent buffers, with the lengths of both lists and the corners
+//   after it; or `ring_in_area,` with the four edges before those lengths: answered by the number, the area, the number of points
+//   and both buffers after the call in one number;
 // - a function and its arguments, answered by bits, a bool by 1 or 0: `root,4010000000000000 4000000000000000`;
 // - an ellipsoid's constructor and its arguments, or its name, answered as in a sheet by its number, a and f:
 //   `sphere,3ff0000000000000 0,3ff0000000000000,0000000000000000`.
@@ -13,6 +16,7 @@ use crate::functions::of_two;
 use crate::line::question;
 use crate::reply::Reply;
 use crate::reply::of_answer;
+use crate::rings::of_ring_line;
 use bytes::scan::find;
 use check::same;
 use float::f64_of;
@@ -86,6 +90,10 @@ pub(crate) fn reply(question: &[u8]) -> Reply {
         of_area(rest(question), false)
     } else if same(first, b"handed") {
         of_area(rest(question), true)
+    } else if same(first, b"ring") {
+        of_ring_line(rest(question), false)
+    } else if same(first, b"ring_in_area") {
+        of_ring_line(rest(question), true)
     } else {
         of_call(question)
     }

@@ -1,8 +1,8 @@
 //! Writes the answers that crates/replay replays, of 01's functions, of the source with these, and of
 //! 02: of functions, of the ellipsoid's numbers, constructors and names, of value lines of each kind,
-//! with Albers on a sphere, and of such lines with an area of use.
+//! with Albers on a sphere, of such lines with an area of use, and of rings.
 
-use oracle::area::{Meant, Rule};
+use oracle::area::{self, Rule as _};
 use oracle::area_sample::area_sample;
 use oracle::cases::{cases, numbers};
 use oracle::ellipsoids::{CONSTRUCTORS, Constructor, NAMED, named_arguments};
@@ -11,6 +11,8 @@ use oracle::functions::{Arguments, ELLIPSOID, FUNCTIONS, Function, Takes};
 use oracle::line::{KINDS, Line, WAYS};
 use oracle::lines::{Lines, Sort};
 use oracle::patterns::{Patterns, SPECIALS, edge_arguments};
+use oracle::ring::{self, Rule as _};
+use oracle::ring_sample::ring_sample;
 use oracle::sharp::sharp;
 use oracle::source::fixed::parts::axes;
 use oracle::sphere_sample::sphere_sample;
@@ -28,7 +30,8 @@ fn main() {
         .chain(CONSTRUCTORS.iter().flat_map(of_constructor))
         .chain(named())
         .chain(ways.flat_map(|(way, kind)| of_kind(way, kind)))
-        .chain(with_area());
+        .chain(with_area())
+        .chain(rings());
     for line in stored {
         println!("{line}");
     }
@@ -87,7 +90,15 @@ fn of_kind(way: u8, kind: u8) -> Vec<Stored> {
 fn with_area() -> impl Iterator<Item = Stored> {
     area_sample().into_iter().map(|(question, why)| Stored {
         question: question.text(),
-        answer: Meant.answer(&question).text(),
+        answer: area::Meant.answer(&question).text(),
+        why,
+    })
+}
+
+fn rings() -> impl Iterator<Item = Stored> {
+    ring_sample().into_iter().map(|(question, why)| Stored {
+        question: question.text(),
+        answer: ring::Meant.answer(&question).text(),
         why,
     })
 }

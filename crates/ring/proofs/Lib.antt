@@ -1,0 +1,11 @@
+pub mod Edges
+pub mod Counting
+pub mod Laying
+pub mod InRingOrder
+pub mod Walking
+pub mod Measuring
+pub mod HowMany
+pub mod CornersAmong
+pub mod Buffers
+pub mod NumbersInOrder
+pub mod NeverZero

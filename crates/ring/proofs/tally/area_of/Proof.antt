@@ -1,0 +1,9 @@
+-- The definition, operation by operation.
+use mathlib.Core.Path.{refl}
+use Rattle.ring.specs.Tally.{tally-area}
+use Rattle.ring.proofs.tally.area_of.Statement.{statement}
+use Rattle.ring.proofs.tally.area_of.Tie as tie
+
+pub area-of-spec : {M : Type 1} → statement M
+unfolding tally-area
+area-of-spec = tie.close (tie.spec (λ c. refl))
