@@ -17,7 +17,6 @@ use Rattle.kinds.specs.Kinds as kinds
 use Rattle.kinds.specs.declared.Built.the-variants as built
 use Rattle.kinds.specs.declared.Projection.{Projection}
 use Rattle.kinds.proofs.NeverZero.{answer-never-zero}
-use Rattle.ring.specs.declared.RingArea.{RingArea}
 use Rattle.ring.specs.declared.RingArea.the-variants.{Measured, Refused}
 use Rattle.ring.specs.declared.edge.Point.{Point}
 use Rattle.ring.specs.declared.edge.Projected.{Projected}

@@ -12,7 +12,7 @@ use crate::walk::Walked;
 use kinds::Projection;
 
 // The points at which the edge from a to b is cut, with so many cuts left: the midpoint is projected first, then the first half is
-// cut, and then the second. Each point is counted, and stored where there is a place for it.
+// cut, and then the second. Each point is counted, and stored where there is a place for it. The bound keeps their number from overflowing.
 pub(crate) fn cut(
     p: Projection,
     a: Point,

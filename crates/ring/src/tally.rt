@@ -2,6 +2,7 @@
 ghost use mathlib.Core.Path.{_≡_};
 ghost use Prim.Native.Nat.{_<_};
 ghost use lib.ListN.{set};
+ghost use Rattle.ring.specs.Ring.{term};
 ghost use Rattle.ring.specs.Tally.{started, counted, tally-area};
 use crate::edge::Point;
 
@@ -21,6 +22,13 @@ fn store(list: &mut [f64], i: usize, x: f64)
     }
 }
 
+// What a point and the next one add to the sum.
+fn term(a: Point, next: Point) -> f64
+    ensures { λ r. ⌜ r ≡ term a next ⌝ }
+{
+    a.easting * next.northing - next.easting * a.northing
+}
+
 // The first point. It is stored where there is a place for it.
 pub(crate) fn start(first: Point, easting: &mut [f64], northing: &mut [f64]) -> Tally
     ensures { λ r. ⌜ r ≡ started first ⌝ }
@@ -36,7 +44,7 @@ pub(crate) fn start(first: Point, easting: &mut [f64], northing: &mut [f64]) -> 
     }
 }
 
-// One point more. It is stored where there is a place for it.
+// One point more. It is stored where there is a place for it. No ring comes near 2^24 points: the bound keeps their number from overflowing.
 pub(crate) fn count(t: Tally, m: Point, easting: &mut [f64], northing: &mut [f64]) -> Tally
     requires { ⌜ t .points < 16777216 ⌝ }
     ensures { λ r. ⌜ r ≡ counted t m ⌝ }
@@ -44,13 +52,11 @@ pub(crate) fn count(t: Tally, m: Point, easting: &mut [f64], northing: &mut [f64
     ensures { λ _. ⌜ now (northing .exit) ≡ set (now (northing .entry)) (t .points) (m .northing) ⌝ }
 {
     let i = t.points;
-    let a = t.last;
     store(easting, i, m.easting);
     store(northing, i, m.northing);
-    let term = a.easting * m.northing - m.easting * a.northing;
     Tally {
         points: i + 1,
-        sum: t.sum + term,
+        sum: t.sum + term(t.last, m),
         last: m,
     }
 }
@@ -59,7 +65,5 @@ pub(crate) fn count(t: Tally, m: Point, easting: &mut [f64], northing: &mut [f64
 pub(crate) fn area_of(t: Tally, first: Point) -> f64
     ensures { λ r. ⌜ r ≡ tally-area t first ⌝ }
 {
-    let a = t.last;
-    let term = a.easting * first.northing - first.easting * a.northing;
-    0.5 * (t.sum + term)
+    0.5 * (t.sum + term(t.last, first))
 }
