@@ -1,7 +1,9 @@
 pub mod AlbersEqualArea
 pub mod AsInSource
+pub mod GivenQuotients
 pub mod OnEllipsoid
 pub mod OnSphere
 pub mod Opened
 pub mod Parallels
+pub mod RoundCases
 pub mod SphereCases

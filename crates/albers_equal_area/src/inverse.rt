@@ -1,7 +1,8 @@
 // From the map to a place.
 ghost use mathlib.Core.Path.{_≡_};
 ghost use Rattle.projection.specs.OnTheMap.{OnTheMap};
-ghost use Rattle.albers_equal_area.specs.OnEllipsoid.{latitude-round, lat-from-q};
+ghost use Rattle.albers_equal_area.specs.OnEllipsoid.{lat-from-q};
+ghost use Rattle.albers_equal_area.specs.GivenQuotients.{latitude-round-given};
 ghost use Rattle.albers_equal_area.specs.AlbersEqualArea.{latitude-of-q, theta-of-offset, q-of-offset, place, formula, inverse};
 use crate::AlbersEqualArea;
 use crate::sphere::is_sphere;
@@ -20,12 +21,10 @@ use root::root;
 use trigonometry::sin_cos;
 
 impl AlbersEqualArea {
-    // One round, from lat, towards the latitude that has this q.
-    fn latitude_round(q: f64, e: f64, e2: f64, lat: f64) -> f64
-        ensures { λ r. ⌜ r ≡ latitude-round q e e2 lat ⌝ }
+    // One round, from lat, towards the latitude of a q. It is given q / (1 - e2) and 1 / (2e), which no round changes.
+    fn latitude_round(scaled_q: f64, half_over_e: f64, e: f64, e2: f64, lat: f64) -> f64
+        ensures { λ r. ⌜ r ≡ latitude-round-given «scaled_q» «half_over_e» e e2 lat ⌝ }
     {
-        let scaled_q = q / (1.0 - e2);
-        let half_over_e = 1.0 / (2.0 * e);
         let sc = sin_cos(lat);
         let sin_lat = sc.sin;
         let e_sin = e * sin_lat;
@@ -40,8 +39,10 @@ impl AlbersEqualArea {
         ensures { λ r. ⌜ r ≡ lat-from-q q e e2 ⌝ }
     {
         let mut lat = asin(q / 2.0);
+        let scaled_q = q / (1.0 - e2);
+        let half_over_e = 1.0 / (2.0 * e);
         for _ in 0..Self::STEPS {
-            let next = Self::latitude_round(q, e, e2, lat);
+            let next = Self::latitude_round(scaled_q, half_over_e, e, e2, lat);
             if abs(next - lat) < Self::TOLERANCE {
                 return Solution::Found(next);
             }

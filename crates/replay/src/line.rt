@@ -1,5 +1,9 @@
 // The parts of a stored line.
 use bytes::scan::find;
+use float::f64_of;
+use sheet::Hex;
+use sheet::field;
+use sheet::read_hex;
 
 // The line without its comment, which starts at `#`, and without the blanks before that.
 pub(crate) fn uncommented(line: &[u8]) -> &[u8] {
@@ -26,4 +30,20 @@ pub(crate) fn answer(text: &[u8]) -> &[u8] {
         return &text[end + 1..];
     }
     &text[end..]
+}
+
+// Whether a field is a number's 16 digits.
+pub(crate) fn has_number(text: &[u8], i: usize) -> bool {
+    match read_hex(field(text, i)) {
+        Hex::Bits(_) => true,
+        Hex::Malformed => false,
+    }
+}
+
+// The number of a field; 0 where it has another form.
+pub(crate) fn number_of(text: &[u8], i: usize) -> f64 {
+    match read_hex(field(text, i)) {
+        Hex::Bits(bits) => f64_of(bits),
+        Hex::Malformed => 0.0,
+    }
 }

@@ -5,6 +5,7 @@
 // where the comment may be left out. What a question may be, and its answer, stands in `question`. The lines of one name, a
 // function's or a way's and kind's, stand together. The program writes for each name how many of its answers are ours, and
 // before that each line whose answer is not ours or whose question it does not understand.
+mod albers;
 mod areas;
 mod ellipsoids;
 mod functions;

@@ -5,9 +5,11 @@
 // - `ring,` and a value line whose u and v are the lengths of the lent buffers, with the lengths of both lists and the corners
 //   after it; or `ring_in_area,` with the four edges before those lengths: answered by the number, the area, the number of points
 //   and both buffers after the call in one number;
+// - `albers_inverse,` and the nine numbers of an Albers, unchecked, an easting and a northing: answered as in a sheet;
 // - a function and its arguments, answered by bits, a bool by 1 or 0: `root,4010000000000000 4000000000000000`;
 // - an ellipsoid's constructor and its arguments, or its name, answered as in a sheet by its number, a and f:
 //   `sphere,3ff0000000000000 0,3ff0000000000000,0000000000000000`.
+use crate::albers::of_albers;
 use crate::areas::of_area;
 use crate::ellipsoids::of_name;
 use crate::functions::of_one;
@@ -94,6 +96,8 @@ pub(crate) fn reply(question: &[u8]) -> Reply {
         of_ring_line(rest(question), false)
     } else if same(first, b"ring_in_area") {
         of_ring_line(rest(question), true)
+    } else if same(first, b"albers_inverse") {
+        of_albers(rest(question))
     } else {
         of_call(question)
     }

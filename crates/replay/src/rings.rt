@@ -5,6 +5,7 @@ ghost use Prim.Native.Nat.{_<_, _≤_};
 ghost use lib.ListN.{length};
 use crate::areas::Edges;
 use crate::areas::read_edges;
+use crate::line::number_of;
 use crate::reply::Reply;
 use crate::reply::of_ring;
 use float::bits_of;
@@ -57,14 +58,6 @@ fn whole(text: &[u8], i: usize, most: usize) -> usize
             most
         }
         Hex::Malformed => most,
-    }
-}
-
-// The number of a field; 0 where it has another form.
-fn number_of(text: &[u8], i: usize) -> f64 {
-    match read_hex(field(text, i)) {
-        Hex::Bits(bits) => f64_of(bits),
-        Hex::Malformed => 0.0,
     }
 }
 
