@@ -11,7 +11,8 @@
 //!   that the source has, and `latitude_from_conformal_t`, which no kind of 01's calls;
 //! - azimuthal_equidistant.rs: `AzimuthalEquidistant`, with its crate `geographiclib_rs`.
 //!
-//! albers_equal_area.rs gets a function more: one that takes its numbers as they are handed in.
+//! albers_equal_area.rs gets two functions more: one that takes its numbers as they are handed in, and
+//! one that hands them out.
 //!
 //! The build fails where a text to cut is not found, or found twice, and where a method is left in
 //! `fixed.rs` that is neither 01's nor on the list of those that may stay.
@@ -63,12 +64,17 @@ fn tree(source: &Path, build: &str) -> String {
         + &module("projection", &projection)
 }
 
-/// An Albers of any numbers.
+/// An Albers of any numbers, and the numbers of an Albers.
 const HANDED: &str = "
 impl AlbersEqualArea {
     pub(crate) fn handed(numbers: &[f64; 9]) -> Self {
         let [a, e, e2, lon0, n, c, rho0, false_easting, false_northing] = *numbers;
         Self { a, e, e2, lon0, n, c, rho0, false_easting, false_northing }
+    }
+
+    pub(crate) fn numbers(&self) -> [f64; 9] {
+        let Self { a, e, e2, lon0, n, c, rho0, false_easting, false_northing } = *self;
+        [a, e, e2, lon0, n, c, rho0, false_easting, false_northing]
     }
 }
 ";

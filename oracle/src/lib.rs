@@ -1,7 +1,7 @@
 //! What the Rattle code is held against: document 01's fixed functions in Rust, written from 01
 //! alone, the source's own files with those functions and with the platform's, document 02's Albers
-//! on a sphere beside them, its area of use over all and its ring on top, and what to try them on. No
-//! crate of a registry.
+//! on a sphere and its rounds beside them, its area of use over all and its ring on top, and what to
+//! try them on. No crate of a registry.
 
 pub mod area;
 pub mod area_cases;
@@ -14,6 +14,7 @@ pub mod ellipsoids;
 pub mod expected;
 pub mod fixed;
 pub mod functions;
+pub mod inverses;
 pub mod line;
 pub mod lines;
 pub mod methods;
@@ -25,6 +26,9 @@ pub mod ring;
 pub mod ring_cases;
 pub mod ring_sample;
 pub mod rings;
+pub mod round_cases;
+pub mod round_sample;
+pub mod rounds;
 pub mod sharp;
 pub mod sheet;
 pub mod sheets;

@@ -50,7 +50,7 @@ impl Line {
 }
 
 /// The number that 16 lowercase hexadecimal digits write.
-fn pattern(field: &[u8]) -> Option<u64> {
+pub fn pattern(field: &[u8]) -> Option<u64> {
     let lowercase = |b: &u8| matches!(b, b'0'..=b'9' | b'a'..=b'f');
     if field.len() != 16 || !field.iter().all(lowercase) {
         return None;

@@ -1,9 +1,11 @@
 //! The Rattle functions, by the static libraries of crates/probe and, as users have them, crates/capi.
 
 use crate::area::{Area, AreaLine};
+use crate::cases;
 use crate::fixed;
-use crate::line::{Answer, Columns, Line};
+use crate::line::{Answer, Columns, F, LAT1, LAT2, Line, U, V};
 use crate::ring::{Ring, RingAnswer, lent};
+use crate::rounds::Handed;
 use crate::sphere;
 
 /// A projection as the archive's callers keep it.
@@ -234,6 +236,14 @@ pub fn answer_handed(line: &Line, numbers: &sphere::Numbers) -> Answer {
     let (mut projection, number) = built(line);
     projection[ALBERS..][..numbers.len()].copy_from_slice(numbers);
     answer_by((projection, number), line)
+}
+
+/// The answer to an inverse point of an Albers of any numbers.
+pub fn answer_by_numbers(question: &Handed) -> Answer {
+    let Handed { numbers, point } = question;
+    let [x, y] = *point;
+    let named = [(F, 0.1), (LAT1, 0.5), (LAT2, 0.5), (U, x), (V, y)];
+    answer_handed(&cases::line(b"IA", &named), numbers)
 }
 
 fn answer_by((projection, refused): (Numbers, u8), line: &Line) -> Answer {

@@ -22,6 +22,10 @@ pub const FALSE_NORTHING: u8 = 10;
 /// The numbers of an Albers, in the source's order: a, e, e2, lon0, n, c, rho0 and the offsets.
 pub type Numbers = [f64; 9];
 
+/// The places of e and e2 among them.
+pub const E: usize = 1;
+pub const E2: usize = 2;
+
 /// One that is built on a sphere: all of these but e, which its formulas do not have.
 #[derive(Clone, Copy, Debug)]
 pub struct Sphere {
@@ -49,6 +53,21 @@ impl Sphere {
             fe,
             fn_,
         }
+    }
+
+    /// Its numbers, with any e.
+    pub fn numbers(&self, e: f64) -> Numbers {
+        let Sphere {
+            a,
+            e2,
+            lon0,
+            n,
+            c,
+            rho0,
+            fe,
+            fn_,
+        } = *self;
+        [a, e, e2, lon0, n, c, rho0, fe, fn_]
     }
 }
 

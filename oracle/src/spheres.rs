@@ -2,10 +2,11 @@
 //! tolerances, places at the poles, and points about the rim of the map.
 
 use crate::area::BOUND;
-use crate::expected::{Projection, answer};
+use crate::expected::answer;
 use crate::line::{A, F, FE, FN, LAT0, LAT1, LAT2, LON0, Line, U, V};
 use crate::lines::{Lines, Sort, ZEROS};
 use crate::patterns::Patterns;
+use crate::rounds::Handed;
 use std::f64::consts::{FRAC_PI_2, FRAC_PI_4, PI};
 
 /// What a line is like.
@@ -180,12 +181,12 @@ impl Spheres {
 
 /// An inverse line whose point is moved away from the apex, by so many times.
 fn from_apex(mut line: Line, farther: f64) -> Line {
-    let Ok(Projection::Sphere(on)) = Projection::new(line.kind, &line.fields) else {
+    let Ok(Handed { numbers, point }) = Handed::built(&line) else {
         return line;
     };
-    let [.., x, y] = line.fields;
-    let apex = on.fn_ + on.rho0;
-    line.fields[U] = on.fe + farther * (x - on.fe);
+    let ([.., rho0, fe, fn_], [x, y]) = (numbers, point);
+    let apex = fn_ + rho0;
+    line.fields[U] = fe + farther * (x - fe);
     line.fields[V] = apex + farther * (y - apex);
     line
 }

@@ -126,19 +126,9 @@ fn the_inverse_is_as_on_the_ellipsoid() {
     reading(6);
 }
 
-/// Its numbers, with any e and e2.
+/// Its numbers, with any e2 and the root of that.
 fn with_e2(on: &Sphere, e2: f64) -> Numbers {
-    [
-        on.a,
-        e2.sqrt(),
-        e2,
-        on.lon0,
-        on.n,
-        on.c,
-        on.rho0,
-        on.fe,
-        on.fn_,
-    ]
+    Sphere { e2, ..*on }.numbers(e2.sqrt())
 }
 
 #[test]

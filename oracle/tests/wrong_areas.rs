@@ -9,6 +9,7 @@ use oracle::expected::Projection;
 use oracle::line::{Answer, KINDS, LON0, WAYS};
 use oracle::lines::SORTS;
 use oracle::source::fixed::parts::normalize_longitude;
+use oracle::stored;
 use std::f64::consts::{FRAC_PI_2, PI};
 
 const WRONG: [(&str, &dyn Rule); 28] = [
@@ -76,16 +77,7 @@ fn noticing(stored: &[(AreaLine, String)], rule: &dyn Rule) -> usize {
 
 /// The stored lines that have an area.
 fn stored() -> Vec<(AreaLine, String)> {
-    let file = concat!(env!("CARGO_MANIFEST_DIR"), "/../crates/replay/stdin");
-    let text = std::fs::read_to_string(file).expect("the stored sample");
-    let with_area = |line: &&str| line.starts_with("area,") || line.starts_with("handed,");
-    let read = |line: &str| {
-        let (question, rest) = line.split_once(' ').expect("a question and its answer");
-        let (answer, _) = rest.split_once(' ').unwrap_or((rest, ""));
-        let question = AreaLine::read(question).expect("a line with an area");
-        (question, answer.to_owned())
-    };
-    text.lines().filter(with_area).map(read).collect()
+    stored::read(&["area,", "handed,"], AreaLine::read)
 }
 
 #[test]

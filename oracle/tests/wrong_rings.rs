@@ -9,6 +9,7 @@ use oracle::ring::{
 };
 use oracle::rings::{Rings, SHAPES, turn};
 use oracle::source::fixed::parts::{normalize_longitude, validate_lon_lat};
+use oracle::stored;
 
 const WRONG: [(&str, &dyn Rule); 81] = [
     // the test
@@ -132,16 +133,7 @@ fn noticing(stored: &[(Ring, String)], rule: &dyn Rule) -> usize {
 
 /// The stored rings.
 fn stored() -> Vec<(Ring, String)> {
-    let file = concat!(env!("CARGO_MANIFEST_DIR"), "/../crates/replay/stdin");
-    let text = std::fs::read_to_string(file).expect("the stored sample");
-    let is_ring = |line: &&str| line.starts_with("ring,") || line.starts_with("ring_in_area,");
-    let read = |line: &str| {
-        let (question, rest) = line.split_once(' ').expect("a question and its answer");
-        let (answer, _) = rest.split_once(' ').unwrap_or((rest, ""));
-        let ring = Ring::read(question).expect("a ring");
-        (ring, answer.to_owned())
-    };
-    text.lines().filter(is_ring).map(read).collect()
+    stored::read(&["ring,", "ring_in_area,"], Ring::read)
 }
 
 #[test]

@@ -8,6 +8,7 @@ use oracle::lines::{Lines, SORTS};
 use oracle::source::fixed::parts::{ensure_finite_lon_lat, normalize_longitude};
 use oracle::sphere::{CONE_CONSTANT, Meant, NO_CONE, ONE_PARALLEL, Rule, Sphere};
 use oracle::spheres::{SHAPES, Spheres};
+use oracle::stored;
 use std::f64::consts::FRAC_PI_2;
 
 const WRONG: [(&str, &dyn Rule); 49] = [
@@ -94,16 +95,7 @@ fn noticing(stored: &[(Line, String)], rule: &dyn Rule) -> usize {
 
 /// The stored lines of Albers.
 fn stored() -> Vec<(Line, String)> {
-    let file = concat!(env!("CARGO_MANIFEST_DIR"), "/../crates/replay/stdin");
-    let text = std::fs::read_to_string(file).expect("the stored sample");
-    let of_albers = |line: &&str| line.starts_with("F,A,") || line.starts_with("I,A,");
-    let read = |line: &str| {
-        let (question, rest) = line.split_once(' ').expect("a question and its answer");
-        let (answer, _) = rest.split_once(' ').unwrap_or((rest, ""));
-        let line = Line::read(question.as_bytes()).expect("a value line");
-        (line, answer.to_owned())
-    };
-    text.lines().filter(of_albers).map(read).collect()
+    stored::read(&["F,A,", "I,A,"], |text| Line::read(text.as_bytes()))
 }
 
 #[test]

@@ -7,7 +7,7 @@ use lib.Ieee.{Float, nan, neg}
 use Rattle.float.specs.Operators.{_⊕_, _⊖_, _⊗_, _⊘_, _≈_, f64}
 use Rattle.float.specs.Constants.{+0, one, two, half, ratio}
 use Rattle.root.specs.Root.{root}
-use Rattle.trigonometry.specs.Trigonometry.{sine, cosine}
+use Rattle.trigonometry.specs.Trigonometry.{sine}
 use Rattle.fixed.specs.Logarithm.{ln}
 use Rattle.albers_equal_area.specs.OnEllipsoid.{latitude-round}
 use Rattle.albers_equal_area.specs.GivenQuotients.{latitude-round-given}
@@ -60,14 +60,11 @@ cases = refl
 abbrev by-reciprocal : Float → Float → Float → Float → Float
 by-reciprocal q e e2 lat = latitude-round-given (q ⊗ (one ⊘ (one ⊖ e2))) (one ⊘ (two ⊗ e)) e e2 lat
 
--- the logarithm's term added before the sine's is taken off
+-- the logarithm's term added to the quotient before the sine's is taken off, and then nothing for it
 abbrev in-another-order : Float → Float → Float → Float → Float
 in-another-order q e e2 lat =
-    let sin-lat = sine lat in
-    let e-sin = e ⊗ sin-lat in
-    let one-minus-e2sin2 = one ⊖ e2 ⊗ sin-lat ⊗ sin-lat in
-    lat ⊕ one-minus-e2sin2 ⊗ one-minus-e2sin2 ⊘ (two ⊗ cosine lat)
-    ⊗ (q ⊘ (one ⊖ e2) ⊕ one ⊘ (two ⊗ e) ⊗ ln ((one ⊖ e-sin) ⊘ (one ⊕ e-sin)) ⊖ sin-lat ⊘ one-minus-e2sin2)
+    let e-sin = e ⊗ sine lat in
+    latitude-round-given (q ⊘ (one ⊖ e2) ⊕ one ⊘ (two ⊗ e) ⊗ ln ((one ⊖ e-sin) ⊘ (one ⊕ e-sin))) +0 e e2 lat
 
 -- whether a program's round gives the definition's number there
 abbrev as-defined : (Float → Float → Float → Float → Float) → Bool

@@ -4,14 +4,16 @@
 //! taking turns. Ends in 1 where an answer of ours is not that of the source with 01's functions.
 //! `columns growth` times ours for 1,000 to 1,000,000 points, `columns single` ours by a column, by
 //! a call for each point, and by building and a call for each, `columns area` ours without an area of
-//! use, with one that holds all the places, and with one that holds none, and `columns sphere` Albers
-//! on its ellipsoid and on a sphere: ours, and the same in Rust, which on a sphere is the oracle's.
+//! use, with one that holds all the places, and with one that holds none, `columns sphere` Albers on
+//! its ellipsoid and on a sphere: ours, and the same in Rust, which on a sphere is the oracle's, and
+//! `columns rounds` what 02's quotients cost the oracle's Albers inverse before its rounds and in each.
 
 use oracle::area::{AreaLine, BOUND, OUTSIDE_AREA, WIDEST};
 use oracle::expected;
 use oracle::line::{Columns, KINDS, Line, U, V, WAYS};
 use oracle::lines::Lines;
 use oracle::ours;
+use oracle::rounds::{Given, Handed, Meant, Rule};
 use oracle::source::{fixed, platform};
 use std::f64::consts::PI;
 use std::hint::black_box;
@@ -32,7 +34,8 @@ fn main() -> ExitCode {
         Some("single") => single(),
         Some("area") => area(),
         Some("sphere") => sphere(),
-        Some(word) => panic!("neither growth nor single nor area nor sphere: {word}"),
+        Some("rounds") => rounds(),
+        Some(word) => panic!("neither growth nor single nor area nor sphere nor rounds: {word}"),
     }
 }
 
@@ -134,6 +137,71 @@ fn sphere() -> ExitCode {
         println!("{differ} answers are not as expected");
     }
     ExitCode::from(u8::from(differ > 0))
+}
+
+fn rounds() -> ExitCode {
+    println!("ns a point: ours, Rust; the oracle's, both quotients before the rounds, and in each");
+    let points = Points::new(b'I', b'A', POINTS);
+    let sides: [Side; 4] = [
+        ours::column,
+        fixed::door::column,
+        before_rounds,
+        in_each_round,
+    ];
+    let [ours, others @ ..] = sides.map(|side| points.filled(side));
+    let differs = |other: &Columns| ours.answers().ne(other.answers());
+    let differ = others.iter().filter(|other| differs(other)).count();
+    print_row(b'I', b'A', points.medians(sides));
+    if differ > 0 {
+        println!("{differ} columns are not ours");
+    }
+    ExitCode::from(u8::from(differ > 0))
+}
+
+fn before_rounds(line: &Line, u: &[f64], v: &[f64], filled: &mut Columns) {
+    by_rule(&BeforeRounds, line, u, v, filled);
+}
+
+fn in_each_round(line: &Line, u: &[f64], v: &[f64], filled: &mut Columns) {
+    by_rule(&InEachRound, line, u, v, filled);
+}
+
+fn by_rule(rule: &impl Rule, line: &Line, u: &[f64], v: &[f64], filled: &mut Columns) {
+    let built = Handed::built(line).expect("a map");
+    for (i, (&u, &v)) in u.iter().zip(v).enumerate() {
+        let point = [u, v];
+        let answer = rule.inverse(&Handed { point, ..built });
+        filled.numbers[i] = answer.number;
+        [filled.p[i], filled.q[i]] = [answer.p, answer.q].map(f64::from_bits);
+    }
+}
+
+/// 02's rounds. What a round is given goes past the compiler, here and below.
+struct BeforeRounds;
+impl Rule for BeforeRounds {
+    fn sum(&self, given: &Given, sine_over_w: f64, logarithm: f64) -> f64 {
+        Meant.sum(&black_box(*given), sine_over_w, logarithm)
+    }
+}
+
+/// The same with q in the place of its quotient, and both quotients worked out in each round.
+struct InEachRound;
+impl Rule for InEachRound {
+    fn before(&self, q: f64, e: f64, e2: f64) -> Given {
+        let (scaled_q, half_over_e) = (q, e);
+        Given {
+            e,
+            e2,
+            scaled_q,
+            half_over_e,
+        }
+    }
+
+    fn sum(&self, given: &Given, sine_over_w: f64, logarithm: f64) -> f64 {
+        let given = black_box(*given);
+        let again = Meant.before(given.scaled_q, given.e, given.e2);
+        Meant.sum(&again, sine_over_w, logarithm)
+    }
 }
 
 fn in_widest(line: &Line, u: &[f64], v: &[f64], filled: &mut Columns) {

@@ -1,6 +1,7 @@
 //! Writes the answers that crates/replay replays, of 01's functions, of the source with these, and of
 //! 02: of functions, of the ellipsoid's numbers, constructors and names, of value lines of each kind,
-//! with Albers on a sphere, of such lines with an area of use, and of rings.
+//! with Albers on a sphere and its rounds, of such lines with an area of use, of rings, and of Albers
+//! inverses with numbers handed in.
 
 use oracle::area::{self, Rule as _};
 use oracle::area_sample::area_sample;
@@ -13,6 +14,7 @@ use oracle::lines::{Lines, Sort};
 use oracle::patterns::{Patterns, SPECIALS, edge_arguments};
 use oracle::ring::{self, Rule as _};
 use oracle::ring_sample::ring_sample;
+use oracle::round_sample::{round_lines, round_sample};
 use oracle::sharp::sharp;
 use oracle::source::fixed::parts::axes;
 use oracle::sphere_sample::sphere_sample;
@@ -31,7 +33,8 @@ fn main() {
         .chain(named())
         .chain(ways.flat_map(|(way, kind)| of_kind(way, kind)))
         .chain(with_area())
-        .chain(rings());
+        .chain(rings())
+        .chain(handed_in());
     for line in stored {
         println!("{line}");
     }
@@ -75,8 +78,9 @@ fn of_kind(way: u8, kind: u8) -> Vec<Stored> {
     let sharp = sharp()
         .into_iter()
         .filter(|(line, _)| (line.way, line.kind) == (way, kind));
-    let spheres = match kind {
-        b'A' => sphere_sample(way),
+    let of_02 = match [way, kind] {
+        [b'I', b'A'] => [sphere_sample(way), round_lines()].concat(),
+        [_, b'A'] => sphere_sample(way),
         _ => Vec::new(),
     };
     let stored = |(line, why): (Line, _)| Stored {
@@ -84,7 +88,7 @@ fn of_kind(way: u8, kind: u8) -> Vec<Stored> {
         answer: answer(&line).text(),
         why,
     };
-    others.chain(sharp).chain(spheres).map(stored).collect()
+    others.chain(sharp).chain(of_02).map(stored).collect()
 }
 
 fn with_area() -> impl Iterator<Item = Stored> {
@@ -99,6 +103,14 @@ fn rings() -> impl Iterator<Item = Stored> {
     ring_sample().into_iter().map(|(question, why)| Stored {
         question: question.text(),
         answer: ring::Meant.answer(&question).text(),
+        why,
+    })
+}
+
+fn handed_in() -> impl Iterator<Item = Stored> {
+    round_sample().into_iter().map(|(question, why)| Stored {
+        question: question.text(),
+        answer: question.expected().text(),
         why,
     })
 }

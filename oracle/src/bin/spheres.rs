@@ -10,7 +10,7 @@ use oracle::fixed::bits_of;
 use oracle::line::{Answer, Columns, F, Line, U, V, WAYS};
 use oracle::ours;
 use oracle::patterns::Patterns;
-use oracle::sphere::{Numbers, Sphere};
+use oracle::sphere::{E2, Numbers, Sphere};
 use oracle::sphere_sample::{numbers, sphere_sample};
 use oracle::spheres::{SHAPES, Spheres};
 use std::process::ExitCode;
@@ -35,7 +35,6 @@ const SQUARES: [f64; 10] = [
     1.0,
     f64::NAN,
 ];
-const E2: usize = 2;
 
 /// The first few differences of a way are printed.
 const SHOWN: usize = 5;

@@ -37,6 +37,14 @@ impl Projection {
     }
 }
 
+/// The numbers of an Albers that is built, in the order of its fields; else 01's number.
+pub fn albers_numbers(fields: &[f64; 10]) -> std::result::Result<[f64; 9], u8> {
+    let [a, f, lon0, lat0, lat1, lat2, fe, fn_, ..] = *fields;
+    let built = Ellipsoid::from_a_f(a, f)
+        .and_then(|on| AlbersEqualArea::new(on, lon0, lat0, lat1, lat2, fe, fn_));
+    built.map(|albers| albers.numbers()).map_err(number)
+}
+
 /// The answer to a line.
 pub fn answer(line: &Line) -> Answer {
     let [.., u, v] = line.fields;
