@@ -74,6 +74,34 @@ fn a_round_given_them_is_the_definitions() {
     }
 }
 
+/// The rows of crates/albers_equal_area/specs/RoundCases.antt: q, e, e2 and the latitude, and the
+/// round's pattern.
+#[test]
+fn a_round_of_the_rows_is_as_they_say() {
+    const INFINITE: u64 = 0x7ff0_0000_0000_0000;
+    const NOT_A_NUMBER: u64 = 0x7ff8_0000_0000_0000;
+    let (e2, inf, nan) = (1.0 / 150.0, f64::INFINITY, f64::NAN);
+    let rows = [
+        ([0.0302734375, root(e2), e2, 0.1875], 0x3f8b_4e4e_2e85_d180),
+        ([1.0, 1.5, 0.25, 0.5], 0x3fe3_9369_f7c2_b376),
+        ([1.0, 0.5, 2.0, 0.5], 0x3fba_d225_a935_6210),
+        ([1.0, 0.0, e2, 0.5], NOT_A_NUMBER),
+        ([1.0, -0.0, e2, 0.5], NOT_A_NUMBER),
+        ([1.0, 0.5, 1.0, 0.5], INFINITE),
+        ([-1.0, 0.5, 1.0, 0.5], INFINITE | 1 << 63),
+        ([0.0, 0.5, 1.0, 0.5], NOT_A_NUMBER),
+        ([inf, 0.5, 0.25, 0.5], INFINITE),
+        ([nan, 0.5, 0.25, 0.5], NOT_A_NUMBER),
+        ([1.0, nan, 0.25, 0.5], NOT_A_NUMBER),
+        ([1.0, 0.5, nan, 0.5], NOT_A_NUMBER),
+    ];
+    for ([q, e, e2, lat], bits) in rows {
+        let given = Meant.round(&Meant.before(q, e, e2), lat);
+        let both = [given, defined_round(q, e, e2, lat)].map(bits_of);
+        assert_eq!(both, [bits; 2], "{q:e} {e:e} {e2:e} {lat:e}");
+    }
+}
+
 #[test]
 fn the_order_of_the_sum_stays() {
     reading(2);
