@@ -1,8 +1,8 @@
 /*
  * IOGP 7-2's Cassini-Soldner example, Trinidad 1903 / Trinidad Grid, in Clarke's links: a projection that is built once, a
  * point forward and back, and a small column with a refused point in it; then projections that are refused, an atlas on a
- * sphere, an area of use across the 180 degree line, the area of a catchment, and a sheet. Checks its own answers: the exit
- * status is 0 if all are right. It is C89, and C++ too.
+ * sphere, an area of use across the 180 degree line, the area of a catchment, the schools nearest to a home, and a sheet.
+ * Checks its own answers: the exit status is 0 if all are right. It is C89, and C++ too.
  */
 #include "lenthuc.h"
 
@@ -11,6 +11,7 @@
 
 #define POINTS 4
 #define CORNERS 5
+#define SCHOOLS 4
 
 static const double pi = 3.14159265358979323846;
 
@@ -355,6 +356,23 @@ static void refused_rings(void)
     check(number == LENTHUC_RING_FORM, "no corners");
 }
 
+/* Metres on a map: the schools are 2,500, 500, 500 and 150 from the home. Of equal distances the first given comes first. */
+static void nearest_schools(void)
+{
+    static const double east[SCHOOLS] = {900.0, -100.0, 200.0, 350.0}, north[SCHOOLS] = {2500.0, 500.0, -400.0, 100.0};
+    uint16_t order[SCHOOLS + 1] = {9, 9, 9, 9, 9};
+    uint8_t number = lenthuc_nearest(200.0, 100.0, east, SCHOOLS, north, SCHOOLS, order, SCHOOLS - 1);
+    printf("too short a list: %s\n", lenthuc_words(number));
+    check(number == LENTHUC_NEAREST_INPUT, "too short a list");
+    check(order[0] == 9 && order[1] == 9 && order[2] == 9 && order[3] == 9, "what too short a list holds");
+    number = lenthuc_nearest(200.0, 100.0, east, SCHOOLS, north, SCHOOLS, order, SCHOOLS + 1);
+    printf("schools, the nearest first: %d %d %d %d\n", order[0], order[1], order[2], order[3]);
+    check(number == LENTHUC_ANSWERED, "the nearest schools");
+    check(order[0] == 3 && order[1] == 1 && order[2] == 2 && order[3] == 0, "the schools' order");
+    check(order[4] == 9, "what stands after the schools");
+    check(lenthuc_nearest(200.0, 100.0, NULL, 0, NULL, 0, NULL, 0) == LENTHUC_NEAREST_INPUT, "no schools");
+}
+
 /* Every number that a call may return has words of its own, and no other number has any. */
 static void words(void)
 {
@@ -362,7 +380,7 @@ static void words(void)
     for (i = 0; i < 256; i++) {
         const char *said = lenthuc_words((uint8_t)i);
         count += said != NULL;
-        check((said != NULL) == (i == 0 || (2 <= i && i <= 28) || i == 255), "a number's words");
+        check((said != NULL) == (i == 0 || (2 <= i && i <= 29) || i == 255), "a number's words");
         for (j = 0; j < i; j++) {
             const char *other = lenthuc_words((uint8_t)j);
             check(said == NULL || other == NULL || strcmp(said, other) != 0, "words that come twice");
@@ -407,6 +425,7 @@ int main(void)
     refused_areas();
     a_catchment();
     refused_rings();
+    nearest_schools();
     words();
     a_sheet();
     if (!wrong) {

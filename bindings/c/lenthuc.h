@@ -22,7 +22,8 @@
  *
  * What holds of every call:
  *
- * - Angles are radians. Lengths have the unit of the semi-major axis a, and a ring's area has its square.
+ * - Angles are radians. Lengths have the unit of the semi-major axis a, and a ring's area has its square. The coordinates of
+ *   lenthuc_nearest may have any unit, the same for all.
  * - The number that a call returns is 0 where it answers. Otherwise it says why not: enum lenthuc_number, lenthuc_words.
  *   A projection's refusal comes before its points'. Else, where several apply, the first in the order of that list is
  *   given, but for three: lat0 is checked by 7 and 8, then lat1, then lat2; 26 comes before 18 and 19; and a ring is checked
@@ -43,7 +44,7 @@
  *   or clang links with -Ofast or -ffast-math does not keep subnormal numbers, and some answers are then others.
  *
  * 'Proved' below is by Rattle, for every input: the definitions are those of crates/NAME/specs, where NAME is capi, ellipsoid,
- * kinds, packing, projection, ring or sheet.
+ * kinds, nearest, packing, projection, ring or sheet.
  */
 #ifndef LENTHUC_H
 #define LENTHUC_H
@@ -70,8 +71,8 @@
 extern "C" {
 #endif
 
-/* The version of this header, 0.5.0. The archive tells its own by lenthuc_version: where they differ, do not use it. */
-#define LENTHUC_VERSION 500
+/* The version of this header, 0.6.0. The archive tells its own by lenthuc_version: where they differ, do not use it. */
+#define LENTHUC_VERSION 600
 
 /* The version of the archive, as LENTHUC_VERSION. */
 uint32_t lenthuc_version(void);
@@ -117,6 +118,7 @@ enum lenthuc_number {
     LENTHUC_OUTSIDE_AREA = 26,
     LENTHUC_RING_FORM = 27,
     LENTHUC_RING_RESULT = 28,
+    LENTHUC_NEAREST_INPUT = 29,
     LENTHUC_UNEQUAL_LENGTHS = 255
 };
 
@@ -180,6 +182,8 @@ LENTHUC_INLINE const char *lenthuc_words(uint8_t number)
         return "the ring's lists have unequal lengths, it has fewer than 3 or more than 4,096 corners, or its projection is of another kind than L, S, A and E";
     case LENTHUC_RING_RESULT:
         return "a buffer is shorter than the ring's points, or the area worked out is not a finite number";
+    case LENTHUC_NEAREST_INPUT:
+        return "there are no schools or more than 256, the lists have unequal lengths, the list for the order is shorter, or a coordinate is not a finite number or above 1e8 in size";
     case LENTHUC_UNEQUAL_LENGTHS:
         return "the columns have unequal lengths: nothing is read or written";
     default:
@@ -344,6 +348,28 @@ uint8_t lenthuc_ring_area(const struct lenthuc_projection *projection, const dou
                           size_t lats, double *LENTHUC_RESTRICT easting, size_t eastings,
                           double *LENTHUC_RESTRICT northing, size_t northings, double *LENTHUC_RESTRICT area,
                           size_t *LENTHUC_RESTRICT points);
+
+/* The most schools that lenthuc_nearest takes. */
+#define LENTHUC_NEAREST_SCHOOLS 256
+
+/*
+ * Schools by their distance from a home, the nearest first. easting and northing are the home's, eastings and northings the
+ * schools', all on one map. Returns 0, and puts the schools' positions in their lists, counted from 0, into the first places
+ * of order, each school once; later places stay as they are. Or returns 29, and order stays as it is.
+ *
+ * - The school that has the least dx * dx + dy * dy is first, where dx and dy are its coordinates less the home's. Each
+ *   operation rounds, and no root is taken. Schools that have equal sums stand in the order in which they are given.
+ * - 29 means that eastings_length is 0, above LENTHUC_NEAREST_SCHOOLS, other than northings_length or above order_length; or
+ *   that a coordinate, a school's or the home's, is not finite or is above 1e8 in size. 1e8 itself passes.
+ * - The distance is the straight one on the map, and not the way by road. How near it is to the one on the ground depends on
+ *   the map, and is not proved.
+ *
+ * Proved: the number and the whole of order after the call are those of the definitions nearest-number and nearest-list, for
+ * every length of the three lists.
+ */
+uint8_t lenthuc_nearest(double easting, double northing, const double *eastings, size_t eastings_length,
+                        const double *northings, size_t northings_length, uint16_t *LENTHUC_RESTRICT order,
+                        size_t order_length);
 
 /* The most bytes that a sheet may have; and room for the longest answer to a sheet. */
 #define LENTHUC_SHEET_LIMIT 65536

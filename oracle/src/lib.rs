@@ -1,7 +1,7 @@
 //! What the Rattle code is held against: document 01's fixed functions in Rust, written from 01
 //! alone, the source's own files with those functions and with the platform's, document 02's Albers
-//! on a sphere and its rounds beside them, its area of use over all and its ring on top, and what to
-//! try them on. No crate of a registry.
+//! on a sphere and its rounds beside them, its area of use over all and its ring on top, its nearest
+//! schools, and what to try them on. No crate of a registry.
 
 pub mod area;
 pub mod area_cases;
@@ -18,6 +18,10 @@ pub mod inverses;
 pub mod line;
 pub mod lines;
 pub mod methods;
+pub mod nearest;
+pub mod nearest_cases;
+pub mod nearest_sample;
+pub mod nearests;
 pub mod offices;
 pub mod ours;
 pub mod patterns;

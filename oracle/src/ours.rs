@@ -4,7 +4,8 @@ use crate::area::{Area, AreaLine};
 use crate::cases;
 use crate::fixed;
 use crate::line::{Answer, Columns, F, LAT1, LAT2, Line, U, V};
-use crate::ring::{Ring, RingAnswer, lent};
+use crate::nearest::{self, Nearest, NearestAnswer};
+use crate::ring::{Pair, Ring, RingAnswer, lent};
 use crate::rounds::Handed;
 use crate::sphere;
 
@@ -166,6 +167,16 @@ unsafe extern "C" {
         northings: usize,
         area: &mut f64,
         points: &mut usize,
+    ) -> u8;
+    fn lenthuc_nearest(
+        easting: f64,
+        northing: f64,
+        eastings: *const f64,
+        es: usize,
+        northings: *const f64,
+        ns: usize,
+        order: *mut u16,
+        os: usize,
     ) -> u8;
 }
 
@@ -345,7 +356,7 @@ pub fn ring(question: &Ring) -> RingAnswer {
     RingAnswer::new(number, area, points, &longer)
 }
 
-/// So many places behind a buffer are to stay as they are.
+/// So many places behind a buffer or a lent list are to stay as they are.
 const BEHIND: usize = 2;
 
 fn ring_by(
@@ -387,4 +398,28 @@ impl Lent {
         assert_eq!(number, 0, "the ring is answered");
         (area, points)
     }
+}
+
+/// The answer to a home and its schools, and the lent list after the call.
+pub fn nearest(asked: &Nearest) -> NearestAnswer {
+    let [eastings, northings] = asked.eastings_and_northings();
+    let mut list = nearest::lent(asked.lent + BEHIND);
+    let order = &mut list[..asked.lent];
+    let number = nearest_into(asked.home, [&eastings, &northings], order);
+    let behind = list.split_off(asked.lent);
+    let untouched = nearest::lent(asked.lent + BEHIND).ends_with(&behind);
+    assert!(untouched, "nothing is written behind a lent list");
+    NearestAnswer { number, list }
+}
+
+/// The number, and the order in the lent list.
+pub fn nearest_into(
+    [easting, northing]: Pair,
+    [eastings, northings]: [&[f64]; 2],
+    order: &mut [u16],
+) -> u8 {
+    let (es, ns, os) = (eastings.len(), northings.len(), order.len());
+    let (e, n, o) = (eastings.as_ptr(), northings.as_ptr(), order.as_mut_ptr());
+    // SAFETY: it reads two slices and writes another, each with its length.
+    unsafe { lenthuc_nearest(easting, northing, e, es, n, ns, o, os) }
 }

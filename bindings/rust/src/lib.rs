@@ -98,6 +98,30 @@
 //! [`Ring`] says what an edge is, how a ring across the 180° line is written, and what to do with
 //! holes and false offsets.
 //!
+//! # The nearest schools
+//!
+//! [`nearest`](nearest()) takes a home and schools, eastings and northings on one map, and gives the
+//! schools' positions, the nearest first. [`nearest_into`] does the same with a list that is lent, and
+//! allocates nothing.
+//!
+//! ```
+//! use lenthuc::{LambertAzimuthalEqualArea, Projection, Refusal, WGS84, nearest};
+//!
+//! let [lon0, lat0] = [6.13, 49.62].map(f64::to_radians);
+//! let map = LambertAzimuthalEqualArea::new(WGS84, lon0, lat0, 0.0, 0.0)?;
+//!
+//! // Schools and a home, in degrees.
+//! let schools = [("Lake", 6.19, 49.61), ("Mill", 6.12, 49.65), ("Hill", 6.11, 49.6)];
+//! let on_map = schools.map(|(_, lon, lat)| map.forward_degrees(lon, lat));
+//! let on_map = on_map.into_iter().collect::<Result<Vec<_>, _>>()?;
+//! let home = map.forward_degrees(6.13, 49.61)?;
+//!
+//! let order = nearest(home, &on_map)?;
+//! let names: Vec<_> = order.into_iter().map(|i| schools[usize::from(i)].0).collect();
+//! assert_eq!(names, ["Hill", "Lake", "Mill"]);
+//! # Ok::<(), Refusal>(())
+//! ```
+//!
 //! # What to rely on
 //!
 //! - Any `f64` may be handed to any function, whatever its bits. Every call ends.
@@ -111,8 +135,8 @@
 //! The archive is `libcapi.a`, which `rt staticlib capi` proves and writes into `target/staticlib`
 //! at the top of Lenthuc's repository. The build looks there, or in the folder that the environment
 //! variable `LENTHUC_ARCHIVE` names by an absolute path. The archive is for x86-64 Linux. It must
-//! have the crate's version: an older one is refused by the build, and building a projection panics
-//! where the versions differ otherwise.
+//! have the crate's version: an older one is refused by the build, and building a projection and
+//! [`nearest`](nearest()) panic where the versions differ otherwise.
 
 #![deny(missing_docs, unsafe_code, unsafe_op_in_unsafe_fn)]
 
@@ -120,6 +144,7 @@ mod area;
 mod built;
 mod ellipsoid;
 mod kinds;
+mod nearest;
 mod outcome;
 mod projection;
 #[allow(unsafe_code)]
@@ -165,6 +190,7 @@ pub use kinds::{
     AlbersEqualArea, AmericanPolyconic, CassiniSoldner, EqualEarth, GuamProjection,
     LambertAzimuthalEqualArea,
 };
+pub use nearest::{NEAREST_SCHOOLS, nearest, nearest_into};
 pub use outcome::Outcome;
 pub use projection::Projection;
 pub use refusal::{Answer, Refusal, UnequalLengths};

@@ -97,6 +97,27 @@ unsafe extern "C" {
         area: &mut f64,
         points: &mut usize,
     ) -> Outcome;
+    fn lenthuc_nearest(
+        easting: f64,
+        northing: f64,
+        eastings: *const f64,
+        eastings_length: usize,
+        northings: *const f64,
+        northings_length: usize,
+        order: *mut u16,
+        order_length: usize,
+    ) -> Outcome;
+}
+
+/// Another version's archive would mean other things by the same calls, so this panics where one is
+/// linked.
+fn check_version() {
+    let linked = lenthuc_version();
+    assert!(
+        linked == VERSION,
+        "libcapi.a has the version {linked}, and lenthuc {} needs {VERSION}",
+        env!("CARGO_PKG_VERSION")
+    );
 }
 
 /// Forward from a longitude and latitude, or back from an easting and northing.
@@ -123,15 +144,9 @@ pub(crate) fn normalize_longitude(lon: f64) -> f64 {
     lenthuc_normalize_longitude(lon)
 }
 
-/// Builds the projection of a kind's letter, in an area of use if there is one. Another version's
-/// archive would mean other things by the same numbers, so this panics where it is linked.
+/// Builds the projection of a kind's letter, in an area of use if there is one.
 pub(crate) fn build(kind: u8, settings: &Ordered, area: Option<Edges>) -> (Outcome, Numbers) {
-    let linked = lenthuc_version();
-    assert!(
-        linked == VERSION,
-        "libcapi.a has the version {linked}, and lenthuc {} needs {VERSION}",
-        env!("CARGO_PKG_VERSION")
-    );
+    check_version();
     let mut projection = [0.0; 36];
     let outcome = match area {
         None => lenthuc_build(kind, settings, &mut projection),
@@ -213,4 +228,29 @@ pub(crate) fn ring_area(
         )
     };
     (outcome, area, points)
+}
+
+/// Of a home and schools, whose order then stands at the list's start; of a refusal the list is as it
+/// was.
+pub(crate) fn nearest(
+    (easting, northing): (f64, f64),
+    [eastings, northings]: [&[f64]; 2],
+    order: &mut [u16],
+) -> Outcome {
+    check_version();
+    // SAFETY: each pointer and the length after it are of one slice. The function reads eastings and
+    // northings and writes order, each within its length, and keeps no pointer; the borrows say that
+    // order overlaps nothing else. It tests the lengths itself.
+    unsafe {
+        lenthuc_nearest(
+            easting,
+            northing,
+            eastings.as_ptr(),
+            eastings.len(),
+            northings.as_ptr(),
+            northings.len(),
+            order.as_mut_ptr(),
+            order.len(),
+        )
+    }
 }

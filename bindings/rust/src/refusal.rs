@@ -48,8 +48,8 @@ macro_rules! refusals {
     };
 }
 
-// The rows of docs/refusals.txt whose numbers a setting, a point or a ring can get through this
-// crate. A letter that names no kind, 2, cannot be written with its types.
+// The rows of docs/refusals.txt whose numbers a setting, a point, a ring or a list of schools can get
+// through this crate. A letter that names no kind, 2, cannot be written with its types.
 refusals! {
     InverseFlattening = 3, "the inverse flattening (1/f) is not a finite number above 1";
     SemiMajorAxis = 4, "the semi-major axis (a) is not a finite number above 0";
@@ -77,6 +77,7 @@ refusals! {
     OutsideArea = 26, "the place lies outside the area of use";
     RingForm = 27, "the ring's lists have unequal lengths, it has fewer than 3 or more than 4,096 corners, or its projection is of another kind than L, S, A and E";
     RingResult = 28, "a buffer is shorter than the ring's points, or the area worked out is not a finite number";
+    NearestInput = 29, "there are no schools or more than 256, the lists have unequal lengths, the list for the order is shorter, or a coordinate is not a finite number or above 1e8 in size";
 }
 
 impl fmt::Display for Refusal {

@@ -70,6 +70,16 @@ unsafe extern "C" {
         area: &mut f64,
         points: &mut usize,
     ) -> u8;
+    fn lenthuc_nearest(
+        easting: f64,
+        northing: f64,
+        eastings: *const f64,
+        eastings_length: usize,
+        northings: *const f64,
+        northings_length: usize,
+        order: *mut u16,
+        order_length: usize,
+    ) -> u8;
 }
 
 const LINE_FORM: u8 = 2;
@@ -631,6 +641,19 @@ fn null_of_a_ring() {
             };
             assert_eq!((number, area.to_bits(), points), (expected, 0, 0));
         }
+    }
+}
+
+/// So it is each list of the nearest schools: 29, since there is no school or no place for one.
+#[test]
+fn null_of_nearest_schools() {
+    let number = 300.0;
+    let (one, none) = ((&raw const number, 1), (ptr::null(), 0));
+    for ((eastings, e), (northings, n)) in [(none, none), (one, none), (none, one), (one, one)] {
+        let order = ptr::null_mut();
+        // SAFETY: of length 0 nothing is read or written, and else there is one number.
+        let said = unsafe { lenthuc_nearest(0.0, 0.0, eastings, e, northings, n, order, 0) };
+        assert_eq!(said, 29, "{e} {n}");
     }
 }
 

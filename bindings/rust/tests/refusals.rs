@@ -3,7 +3,7 @@
 mod common;
 
 use common::{EARTH, KINDS, Random, Settings, WAYS, build, build_in, next_up, project};
-use lenthuc::{Ellipsoid, Refusal, UnequalLengths};
+use lenthuc::{Ellipsoid, Refusal, UnequalLengths, nearest, nearest_into};
 use std::collections::HashSet;
 use std::error::Error;
 use std::f64::consts::{FRAC_PI_2, PI};
@@ -180,6 +180,24 @@ fn of_rings() {
     }
 }
 
+#[test]
+fn of_nearest_schools() {
+    let (home, school) = ((0.0, 0.0), (300.0, 400.0));
+    assert_eq!(nearest(home, &[school]), Ok(vec![0]));
+    for (home, schools) in [
+        (home, vec![]),
+        (home, vec![school; 257]),
+        (home, vec![school, (f64::NAN, 400.0)]),
+        ((0.0, -2e8), vec![school]),
+    ] {
+        assert_eq!(nearest(home, &schools), Err(Refusal::NearestInput));
+    }
+    let unequal = nearest_into(home, &[300.0, 0.0], &[400.0], &mut [0; 2]);
+    assert_eq!(unequal, Err(Refusal::NearestInput));
+    let short = nearest_into(home, &[300.0], &[400.0], &mut []);
+    assert_eq!(short, Err(Refusal::NearestInput));
+}
+
 /// Each kind refuses by the numbers that its documents list, and by no others: with an area by 25 and 26
 /// too, and without one never.
 #[test]
@@ -236,23 +254,23 @@ fn of_each_kind_alone() {
     }
 }
 
-/// Numbers name refusals and refusals have numbers, 3 to 28, and no other number is one.
+/// Numbers name refusals and refusals have numbers, 3 to 29, and no other number is one.
 #[test]
 fn by_number() {
     for number in 0..=u8::MAX {
         let named = Refusal::from_number(number);
-        assert_eq!(named.is_some(), (3..=28).contains(&number), "{number}");
+        assert_eq!(named.is_some(), (3..=29).contains(&number), "{number}");
         assert_eq!(named.map(Refusal::number), named.map(|_| number));
     }
 }
 
 #[test]
 fn as_errors() {
-    let messages: HashSet<_> = (3..=28)
+    let messages: HashSet<_> = (3..=29)
         .filter_map(Refusal::from_number)
         .map(|refusal| refusal.to_string())
         .collect();
-    assert_eq!(messages.len(), 26, "each has its own message");
+    assert_eq!(messages.len(), 27, "each has its own message");
     assert!(messages.iter().all(|message| message.len() > 20));
     let boxed: Box<dyn Error + Send + Sync> = Box::new(Refusal::Antipode);
     assert_eq!(boxed.downcast_ref(), Some(&Refusal::Antipode));

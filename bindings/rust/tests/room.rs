@@ -1,7 +1,10 @@
-//! What `Projection::ring` allocates: room for as many corners as a ring may have, however many it is
-//! given. `Projection::ring_area` allocates nothing.
+//! What `Projection::ring` and `nearest` allocate: room for as many corners or schools as there may be,
+//! however many they are given. `Projection::ring_area` and `nearest_into` allocate nothing.
 
-use lenthuc::{EqualEarth, Projection, RING_CORNERS, RING_ROOM, Refusal, WGS84};
+use lenthuc::{
+    EqualEarth, NEAREST_SCHOOLS, Projection, RING_CORNERS, RING_ROOM, Refusal, WGS84, nearest,
+    nearest_into,
+};
 use std::alloc::{GlobalAlloc, Layout, System};
 use std::cell::Cell;
 
@@ -84,6 +87,42 @@ fn of_lent_buffers() {
     let bytes = allocated(|| {
         let ring = world().ring_area(&lon, &lat, &mut easting, &mut northing);
         assert_eq!(ring.map(|ring| ring.points), Ok(RING_CORNERS));
+    });
+    assert_eq!(bytes, 0);
+}
+
+/// A school's coordinates, and its place in the list.
+const SCHOOL: usize = 2 * NUMBER + size_of::<u16>();
+
+#[test]
+fn of_too_many_schools() {
+    let most = SCHOOL * (NEAREST_SCHOOLS + 1);
+    let many = vec![(1.0, 2.0); 2_000_000];
+    let bytes = allocated(|| assert_eq!(nearest((0.0, 0.0), &many), Err(Refusal::NearestInput)));
+    assert!(bytes <= most, "{bytes} of {most}");
+}
+
+#[test]
+fn of_schools() {
+    for count in [1, 10, 100, NEAREST_SCHOOLS] {
+        let schools = vec![(1.0, 2.0); count];
+        let bytes = allocated(|| {
+            let order = nearest((0.0, 0.0), &schools).expect("an order");
+            assert_eq!((order.len(), order.capacity()), (count, count));
+        });
+        // a vector has room for four at least
+        let most = SCHOOL * count.max(4);
+        assert!(bytes <= most, "{bytes} of {most}");
+    }
+}
+
+#[test]
+fn of_a_lent_list() {
+    let (eastings, northings) = ([1.0; NEAREST_SCHOOLS], [2.0; NEAREST_SCHOOLS]);
+    let mut order = [0; NEAREST_SCHOOLS];
+    let bytes = allocated(|| {
+        let answer = nearest_into((0.0, 0.0), &eastings, &northings, &mut order);
+        assert_eq!(answer, Ok(()));
     });
     assert_eq!(bytes, 0);
 }

@@ -5,5 +5,6 @@ mod ellipsoids;
 mod longitudes;
 mod points;
 mod rings;
+mod schools;
 mod sheets;
 mod version;

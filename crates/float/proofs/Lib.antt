@@ -44,4 +44,6 @@ pub mod SizeBound
 pub mod AtMost
 pub mod UpTo
 pub mod NotANumber
+pub mod NeverNan
+pub mod LessThan
 pub mod Zero

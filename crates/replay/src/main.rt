@@ -14,6 +14,7 @@ mod list;
 mod question;
 mod reply;
 mod rings;
+mod schools;
 
 ghost use mathlib.Core.Path.{_≡_};
 ghost use Prim.Native.Nat.{_+_, _≤_};

@@ -5,6 +5,8 @@
 // - `ring,` and a value line whose u and v are the lengths of the lent buffers, with the lengths of both lists and the corners
 //   after it; or `ring_in_area,` with the four edges before those lengths: answered by the number, the area, the number of points
 //   and both buffers after the call in one number;
+// - `nearest,`, a home, the lengths of both lists of schools and of the list for the order, and the schools: answered by the number and
+//   that list after the call in one number;
 // - `albers_inverse,` and the nine numbers of an Albers, unchecked, an easting and a northing: answered as in a sheet;
 // - a function and its arguments, answered by bits, a bool by 1 or 0: `root,4010000000000000 4000000000000000`;
 // - an ellipsoid's constructor and its arguments, or its name, answered as in a sheet by its number, a and f:
@@ -19,6 +21,7 @@ use crate::line::question;
 use crate::reply::Reply;
 use crate::reply::of_answer;
 use crate::rings::of_ring_line;
+use crate::schools::of_schools;
 use bytes::scan::find;
 use check::same;
 use float::f64_of;
@@ -96,6 +99,8 @@ pub(crate) fn reply(question: &[u8]) -> Reply {
         of_ring_line(rest(question), false)
     } else if same(first, b"ring_in_area") {
         of_ring_line(rest(question), true)
+    } else if same(first, b"nearest") {
+        of_schools(rest(question))
     } else if same(first, b"albers_inverse") {
         of_albers(rest(question))
     } else {

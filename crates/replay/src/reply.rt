@@ -13,11 +13,13 @@ use sheet::field;
 use sheet::read_hex;
 
 // A number as its bits, a row of a sheet (the number of a refusal or 0, and two results as bits), the same of a ring (its area, the
-// number of its points) with both buffers in one number, or none where the question is not understood.
+// number of its points) with both buffers in one number, a number and a list in one number, or none where the question is not
+// understood.
 pub(crate) enum Reply {
     Bits(u64),
     Row(u8, u64, u64),
     Ring(u8, u64, u64, u64),
+    List(u8, u64),
     None,
 }
 
@@ -81,20 +83,30 @@ fn is_ring(text: &[u8], n: u8, area: u64, points: u64, buffers: u64) -> bool {
         & is_hex(field(text, 3), buffers)
 }
 
+// The same of a list's.
+fn is_list(text: &[u8], n: u8, list: u64) -> bool {
+    starts(text, n, 17) & is_hex(field(text, 1), list)
+}
+
 // Whether a text says a reply, and nothing else.
 pub(crate) fn is_said(text: &[u8], reply: Reply) -> bool {
     match reply {
         Reply::Bits(bits) => is_hex(text, bits),
         Reply::Row(n, p, q) => is_row(text, n, p, q),
         Reply::Ring(n, area, points, buffers) => is_ring(text, n, area, points, buffers),
+        Reply::List(n, list) => is_list(text, n, list),
         Reply::None => false,
     }
 }
 
-fn write_row(n: u8, p: u64, q: u64) {
+fn write_list(n: u8, p: u64) {
     io::print_decimal(STDOUT_FILENO, n as u64);
     io::write_all(STDOUT_FILENO, b",");
     io::print_hex(STDOUT_FILENO, p, 16);
+}
+
+fn write_row(n: u8, p: u64, q: u64) {
+    write_list(n, p);
     io::write_all(STDOUT_FILENO, b",");
     io::print_hex(STDOUT_FILENO, q, 16);
 }
@@ -110,6 +122,7 @@ pub(crate) fn write_reply(reply: Reply) {
             io::write_all(STDOUT_FILENO, b",");
             io::print_hex(STDOUT_FILENO, buffers, 16);
         }
+        Reply::List(n, list) => write_list(n, list),
         Reply::None => {
             io::write_all(STDOUT_FILENO, b"none, the question is not understood");
         }

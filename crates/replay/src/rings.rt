@@ -46,7 +46,7 @@ fn places() -> [f64; PLACES]
 }
 
 // The whole number of a field, but no more than `most`.
-fn whole(text: &[u8], i: usize, most: usize) -> usize
+pub(crate) fn whole(text: &[u8], i: usize, most: usize) -> usize
     requires { ⌜ most ≤ 8192 ⌝ }
     ensures { λ r. ⌜ r ≤ most ⌝ }
 {
@@ -62,7 +62,7 @@ fn whole(text: &[u8], i: usize, most: usize) -> usize
 }
 
 // A list's numbers: those of every other field from `first` on, again and again.
-fn fill(list: &mut [f64], text: &[u8], first: usize, given: usize)
+pub(crate) fn fill(list: &mut [f64], text: &[u8], first: usize, given: usize)
     requires { ⌜ (first ≤ 19) × (0 < given) × (given ≤ 64) ⌝ }
 {
     let mut i = 0;

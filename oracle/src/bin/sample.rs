@@ -1,7 +1,7 @@
 //! Writes the answers that crates/replay replays, of 01's functions, of the source with these, and of
 //! 02: of functions, of the ellipsoid's numbers, constructors and names, of value lines of each kind,
-//! with Albers on a sphere and its rounds, of such lines with an area of use, of rings, and of Albers
-//! inverses with numbers handed in.
+//! with Albers on a sphere and its rounds, of such lines with an area of use, of rings, of nearest
+//! schools, and of Albers inverses with numbers handed in.
 
 use oracle::area::{self, Rule as _};
 use oracle::area_sample::area_sample;
@@ -11,6 +11,8 @@ use oracle::expected::answer;
 use oracle::functions::{Arguments, ELLIPSOID, FUNCTIONS, Function, Takes};
 use oracle::line::{KINDS, Line, WAYS};
 use oracle::lines::{Lines, Sort};
+use oracle::nearest::{self, Rule as _};
+use oracle::nearest_sample::nearest_sample;
 use oracle::patterns::{Patterns, SPECIALS, edge_arguments};
 use oracle::ring::{self, Rule as _};
 use oracle::ring_sample::ring_sample;
@@ -34,6 +36,7 @@ fn main() {
         .chain(ways.flat_map(|(way, kind)| of_kind(way, kind)))
         .chain(with_area())
         .chain(rings())
+        .chain(nearest_schools())
         .chain(handed_in());
     for line in stored {
         println!("{line}");
@@ -103,6 +106,14 @@ fn rings() -> impl Iterator<Item = Stored> {
     ring_sample().into_iter().map(|(question, why)| Stored {
         question: question.text(),
         answer: ring::Meant.answer(&question).text(),
+        why,
+    })
+}
+
+fn nearest_schools() -> impl Iterator<Item = Stored> {
+    nearest_sample().into_iter().map(|(question, why)| Stored {
+        question: question.text(),
+        answer: nearest::Meant.answer(&question).text(),
         why,
     })
 }

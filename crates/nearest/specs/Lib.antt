@@ -1,0 +1,6 @@
+pub mod Order
+pub mod Counted
+pub mod Nearest
+pub mod Listed
+pub mod Opened
+pub mod Cases
