@@ -1,5 +1,5 @@
 # shellcheck shell=bash disable=SC2154,SC2015
-# Builds in this repository, one at a time: read by ./lenthuc, tools/bundle and tools/ring-library. They set $me, their name, and $top, the
+# Builds in this repository, one at a time: read by ./lenthuc, tools/bundle and tools/shared-library. They set $me, their name, and $top, the
 # repository's folder. What others build is waited for; on a terminal the crates that are being proved are named; a signal
 # ends what was started.
 
