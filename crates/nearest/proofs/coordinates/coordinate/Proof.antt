@@ -1,4 +1,5 @@
 -- The definition, word for word.
+use mathlib.Core.Path.{refl}
 use Rattle.nearest.specs.Nearest.{coordinate}
 use Rattle.nearest.proofs.coordinates.coordinate.Statement.{statement}
 use Rattle.nearest.proofs.coordinates.coordinate.Tie as tie
@@ -7,4 +8,4 @@ pub coordinate-spec : {M : Type 1} → statement M
 unfolding coordinate
 coordinate-spec =
     tie.close
-    (tie.spec (λ c. cc))
+    (tie.spec (λ c. refl))
