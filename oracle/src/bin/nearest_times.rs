@@ -15,10 +15,10 @@ use std::time::Instant;
 
 const SIZES: [usize; 8] = [8, 16, 32, 64, 100, 128, 200, MOST];
 
-/// How many towns there are of a size, and homes of all of them; and homes of another shape, each with
-/// its own schools.
+/// How many towns there are of a size, and schools of all their homes; and homes of another shape, each
+/// with its own schools.
 const TOWNS: usize = 8;
-const HOMES: usize = 512;
+const OF_HOMES: usize = 1 << 17;
 const ALONE: usize = 64;
 
 /// Half the width of a town, in metres.
@@ -70,7 +70,7 @@ fn place(patterns: &mut Patterns) -> Pair {
 }
 
 fn towns(size: usize, patterns: &mut Patterns) -> Batch {
-    let homes = (0..HOMES).map(|home| (place(patterns), home % TOWNS));
+    let homes = (0..OF_HOMES / size).map(|home| (place(patterns), home % TOWNS));
     let mut batch = Batch {
         homes: homes.collect(),
         lists: Vec::new(),
