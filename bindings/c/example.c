@@ -1,7 +1,8 @@
 /*
  * IOGP 7-2's Cassini-Soldner example, Trinidad 1903 / Trinidad Grid, in Clarke's links: a projection that is built once, a
  * point forward and back, and a small column with a refused point in it; then projections that are refused, an atlas on a
- * sphere, an area of use across the 180 degree line, the area of a catchment, the schools nearest to a home, and a sheet.
+ * sphere, an area of use across the 180 degree line, clicks on a map and in its frame, the area of a catchment, the schools
+ * nearest to a home, and a sheet.
  * Checks its own answers: the exit status is 0 if all are right. It is C89, and C++ too.
  */
 #include "lenthuc.h"
@@ -10,6 +11,7 @@
 #include <string.h>
 
 #define POINTS 4
+#define CLICKS 3
 #define CORNERS 5
 #define SCHOOLS 4
 
@@ -150,13 +152,16 @@ static int all_refused(const struct lenthuc_projection *projection, uint8_t numb
 {
     const double u[2] = {-1.0, 0.5}, v[2] = {0.2, 9.0};
     double p[2] = {1.0, 2.0}, q[2] = {3.0, 4.0};
-    uint8_t numbers[2] = {99, 99};
+    uint8_t numbers[2] = {99, 99}, on_map = 99;
     double x, y, area = 5.0;
     size_t points = 6;
     int right = lenthuc_forward(projection, u[0], v[0], &x, &y) == number && is(x, 0, 0) && is(y, 0, 0);
     right = right && lenthuc_inverse(projection, u[0], v[0], &x, &y) == number && is(x, 0, 0) && is(y, 0, 0);
     right = right && lenthuc_inverse_column(projection, u, 1, v, 1, p, 1, q, 1, numbers, 1) == LENTHUC_ANSWERED;
     right = right && numbers[0] == number && is(p[0], 0, 0) && is(q[0], 0, 0);
+    x = y = 7.0;
+    right = right && lenthuc_inverse_on_map(projection, u[0], v[0], &x, &y, &on_map) == 1 && on_map == number;
+    right = right && is(x, 0, 0) && is(y, 0, 0);
     right = right && lenthuc_ring_area(projection, u, 2, v, 2, p + 1, 1, q + 1, 1, &area, &points) == number;
     right = right && is(area, 0, 0) && points == 0 && p[1] == 2.0 && q[1] == 4.0;
     right = right && lenthuc_forward_column(projection, u, 2, v, 2, p, 2, q, 2, numbers, 2) == LENTHUC_ANSWERED;
@@ -294,6 +299,51 @@ static void refused_areas(void)
     check(number == LENTHUC_LINE_FORM && all_refused(&refused, number), "the kind c in a refused area");
 }
 
+/*
+ * Clicks on a drawn map of the world: on the map, in the frame beside it, and in the frame above it. The first inverse has a
+ * place for each; the second refuses those in the frame, and gives the other one the same place.
+ */
+static void clicks(void)
+{
+    static const double easting[CLICKS] = {1.0e7, 1.7e7, 0.0}, northing[CLICKS] = {5.0e6, 5.0e6, 9.0e6};
+    struct lenthuc_settings of_the_world = {6378137.0, 1 / 298.257223563, 0.0, 0.0, 0.0, 0.0, 0.0, 0.0};
+    struct lenthuc_projection world;
+    double lon[CLICKS], lat[CLICKS];
+    uint8_t numbers[CLICKS];
+    uint8_t said = 99;
+    size_t i;
+    check(lenthuc_build(LENTHUC_EQUAL_EARTH, &of_the_world, &world) == LENTHUC_ANSWERED, "the drawn map");
+    check(lenthuc_inverse_on_map_column(&world, easting, CLICKS, northing, CLICKS, lon, CLICKS, lat, CLICKS, numbers, CLICKS,
+                                        &said) == 1,
+          "the clicks");
+    check(said == LENTHUC_ANSWERED, "the clicks' lengths");
+    for (i = 0; i < CLICKS; i++) {
+        const int on_map = i == 0;
+        double x, y, p, q;
+        uint8_t number = 99;
+        printf("click %d: %s\n", (int)i, lenthuc_words(numbers[i]));
+        check(numbers[i] == (on_map ? LENTHUC_ANSWERED : LENTHUC_OFF_THE_MAP), "a click's number");
+        check(lenthuc_inverse_on_map(&world, easting[i], northing[i], &p, &q, &number) == 1, "a single click");
+        check(number == numbers[i] && same(p, lon[i]) && same(q, lat[i]), "a single click for the column's");
+        check(lenthuc_inverse(&world, easting[i], northing[i], &x, &y) == LENTHUC_ANSWERED, "a click by the first inverse");
+        check(on_map ? same(p, x) && same(q, y) : is(p, 0, 0) && is(q, 0, 0), "a click's results");
+    }
+}
+
+/* A Cassini-Soldner has no second inverse: the calls say so, and what is lent stays as it is. */
+static void no_second_inverse(void)
+{
+    const double easting[1] = {66644.94}, northing[1] = {82536.22};
+    double lon[1] = {1.0}, lat[1] = {2.0};
+    uint8_t numbers[1] = {3}, number = 4;
+    int has = lenthuc_inverse_on_map(&trinidad, easting[0], northing[0], lon, lat, &number);
+    printf("a second inverse of a Cassini-Soldner: %s\n", has ? "yes" : "no");
+    check(has == 0, "a second inverse of a Cassini-Soldner");
+    has = lenthuc_inverse_on_map_column(&trinidad, easting, 1, northing, 1, lon, 1, lat, 1, numbers, 1, &number);
+    check(has == 0, "a column of it");
+    check(lon[0] == 1.0 && lat[0] == 2.0 && numbers[0] == 3 && number == 4, "what was lent to no second inverse");
+}
+
 /* The corners of a catchment, counterclockwise, in degrees; and buffers that are long enough for any five corners. */
 static const double corners[CORNERS][2] = {{6.05, 49.58}, {6.17, 49.57}, {6.21, 49.63}, {6.12, 49.67}, {6.04, 49.64}};
 static double eastings[CORNERS * LENTHUC_RING_ROOM], northings[CORNERS * LENTHUC_RING_ROOM];
@@ -380,7 +430,7 @@ static void words(void)
     for (i = 0; i < 256; i++) {
         const char *said = lenthuc_words((uint8_t)i);
         count += said != NULL;
-        check((said != NULL) == (i == 0 || (2 <= i && i <= 29) || i == 255), "a number's words");
+        check((said != NULL) == (i == 0 || (2 <= i && i <= 30) || i == 255), "a number's words");
         for (j = 0; j < i; j++) {
             const char *other = lenthuc_words((uint8_t)j);
             check(said == NULL || other == NULL || strcmp(said, other) != 0, "words that come twice");
@@ -423,6 +473,8 @@ int main(void)
     homes_of_the_area();
     an_edge();
     refused_areas();
+    clicks();
+    no_second_inverse();
     a_catchment();
     refused_rings();
     nearest_schools();

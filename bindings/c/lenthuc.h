@@ -25,9 +25,10 @@
  * - Angles are radians. Lengths have the unit of the semi-major axis a, and a ring's area has its square. The coordinates of
  *   lenthuc_nearest may have any unit, the same for all.
  * - The number that a call returns is 0 where it answers. Otherwise it says why not: enum lenthuc_number, lenthuc_words.
+ *   lenthuc_inverse_on_map and its column put it into *number, and return whether they have one.
  *   A projection's refusal comes before its points'. Else, where several apply, the first in the order of that list is
- *   given, but for three: lat0 is checked by 7 and 8, then lat1, then lat2; 26 comes before 18 and 19; and a ring is checked
- *   by 27, then point by point, then by 28.
+ *   given, but for four: lat0 is checked by 7 and 8, then lat1, then lat2; 26 comes before 18 and 19; 30 comes after 20, or
+ *   after 22 where it is of Equal Earth's longitude; and a ring is checked by 27, then point by point, then by 28.
  * - Where a point is refused its results are +0. Where it is answered they are finite.
  * - A double may have any of its 2^64 patterns. All NaN count as one, signalling ones too.
  * - A call ends whatever it is given, allocates nothing, and keeps nothing: the same arguments have the same answer, bit for
@@ -71,8 +72,8 @@
 extern "C" {
 #endif
 
-/* The version of this header, 0.6.0. The archive tells its own by lenthuc_version: where they differ, do not use it. */
-#define LENTHUC_VERSION 600
+/* The version of this header, 0.7.0. The archive tells its own by lenthuc_version: where they differ, do not use it. */
+#define LENTHUC_VERSION 700
 
 /* The version of the archive, as LENTHUC_VERSION. */
 uint32_t lenthuc_version(void);
@@ -119,6 +120,7 @@ enum lenthuc_number {
     LENTHUC_RING_FORM = 27,
     LENTHUC_RING_RESULT = 28,
     LENTHUC_NEAREST_INPUT = 29,
+    LENTHUC_OFF_THE_MAP = 30,
     LENTHUC_UNEQUAL_LENGTHS = 255
 };
 
@@ -184,6 +186,8 @@ LENTHUC_INLINE const char *lenthuc_words(uint8_t number)
         return "a buffer is shorter than the ring's points, or the area worked out is not a finite number";
     case LENTHUC_NEAREST_INPUT:
         return "there are no schools or more than 256, the lists have unequal lengths, the list for the order is shorter, or a coordinate is not a finite number or above 1e8 in size";
+    case LENTHUC_OFF_THE_MAP:
+        return "the easting and northing lie off the map, beyond its edge";
     case LENTHUC_UNEQUAL_LENGTHS:
         return "the columns have unequal lengths: nothing is read or written";
     default:
@@ -303,6 +307,45 @@ uint8_t lenthuc_forward_column(const struct lenthuc_projection *projection, cons
 uint8_t lenthuc_inverse_column(const struct lenthuc_projection *projection, const double *easting, size_t eastings,
                                const double *northing, size_t northings, double *LENTHUC_RESTRICT lon, size_t lons,
                                double *LENTHUC_RESTRICT lat, size_t lats, uint8_t *LENTHUC_RESTRICT numbers, size_t ns);
+
+/*
+ * The second inverse: as lenthuc_inverse, but an easting and northing off the map, as a click in the frame around it has, are
+ * refused by 30. lenthuc_inverse gives most of them a place, on the map's edge or, of E's easting, on the map's other side.
+ *
+ * Kinds L, S and E have a second inverse: for them 1 is returned, *number takes 0, or 20, 22 (E alone), 23, 24 or 30, with an
+ * area also 26, and *lon and *lat the results. So it is with a projection that was refused, by its own number, and with numbers
+ * that hold no projection, by 2. The kinds A, C, P and G have none: 0 is returned, and nothing is written.
+ *
+ * 30 comes where one of these is above its limit, as the inverse forms it:
+ *
+ * - L and S: rho / (2 * radius), above 1 + 1e-12. The radius is that of the sphere that has the ellipsoid's area. S's rho is
+ *   the distance from the origin; L's is the root of (dx / d)^2 + (d * dy)^2, by the origin's scale d. About a pole L has the
+ *   arcsine's quotient q / qp instead, above 1 + 1e-12 in size. Where rho is below 1e-9 it is the centre, which is answered
+ *   before the test.
+ * - E: the scaled northing, above 1.3173627591574 + 1e-12 in size; or the longitude from the origin, before lon0 is added,
+ *   above pi + 1e-12 in size.
+ *
+ * A limit is one double, summed once, and what equals it passes. An infinity is above it, and a NaN is not. The numbers come
+ * in this order: the projection's own; 20; 30, but not of E's longitude; 22; 30 of E's longitude; 23; 24; 26.
+ * Proved: it returns what the definition has-second-inverse says of the projection that the numbers hold by the definition
+ * unpacked, of any numbers; where that is 1, the number and the results are those of the definition inverse-on-map, bit for
+ * bit. Where the number is not 30 they are lenthuc_inverse's. So whatever is answered lies on the map and inside the area of
+ * use, as for lenthuc_inverse.
+ */
+uint8_t lenthuc_inverse_on_map(const struct lenthuc_projection *projection, double easting, double northing,
+                               double *LENTHUC_RESTRICT lon, double *LENTHUC_RESTRICT lat,
+                               uint8_t *LENTHUC_RESTRICT number);
+
+/*
+ * A column of points by the second inverse. Returns 1 or 0 as lenthuc_inverse_on_map does. Where it is 1, *number takes what
+ * lenthuc_inverse_column returns, 0 or LENTHUC_UNEQUAL_LENGTHS, and the columns are filled likewise: at each place what
+ * lenthuc_inverse_on_map gives for it. Where it is 0 nothing is written, whatever the lengths.
+ * Proved: as for lenthuc_inverse_column and lenthuc_inverse_on_map.
+ */
+uint8_t lenthuc_inverse_on_map_column(const struct lenthuc_projection *projection, const double *easting, size_t eastings,
+                                      const double *northing, size_t northings, double *LENTHUC_RESTRICT lon, size_t lons,
+                                      double *LENTHUC_RESTRICT lat, size_t lats, uint8_t *LENTHUC_RESTRICT numbers,
+                                      size_t ns, uint8_t *LENTHUC_RESTRICT number);
 
 /* The most corners that a ring may have; and places of a buffer for each corner that are always enough for a ring's points. */
 #define LENTHUC_RING_CORNERS 4096

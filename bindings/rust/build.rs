@@ -9,8 +9,8 @@ use std::path::{Path, PathBuf};
 const FOLDER: &str = "LENTHUC_ARCHIVE";
 const ARCHIVE: &str = "libcapi.a";
 
-/// A function that archives of versions before 0.6.0 lack.
-const NEWEST: &[u8] = b"lenthuc_nearest";
+/// A function that archives of versions before 0.7.0 lack.
+const NEWEST: &[u8] = b"lenthuc_inverse_on_map";
 
 fn main() {
     println!("cargo::rerun-if-changed=build.rs");

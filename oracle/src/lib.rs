@@ -1,13 +1,14 @@
 //! What the Rattle code is held against: document 01's fixed functions in Rust, written from 01
 //! alone, the source's own files with those functions and with the platform's, document 02's Albers
 //! on a sphere and its rounds beside them, its area of use over all and its ring on top, its nearest
-//! schools, and what to try them on. No crate of a registry.
+//! schools and its second inverse, and what to try them on. No crate of a registry.
 
 pub mod area;
 pub mod area_cases;
 pub mod area_sample;
 pub mod areas;
 pub mod cases;
+pub mod clicks;
 pub mod count;
 pub mod damage;
 pub mod ellipsoids;
@@ -23,6 +24,9 @@ pub mod nearest_cases;
 pub mod nearest_sample;
 pub mod nearests;
 pub mod offices;
+pub mod on_map;
+pub mod on_map_cases;
+pub mod on_map_sample;
 pub mod ours;
 pub mod patterns;
 pub mod program;

@@ -5,12 +5,16 @@ use crate::cases;
 use crate::fixed;
 use crate::line::{Answer, Columns, F, LAT1, LAT2, Line, U, V};
 use crate::nearest::{self, Nearest, NearestAnswer};
+use crate::on_map::Click;
 use crate::ring::{Pair, Ring, RingAnswer, lent};
 use crate::rounds::Handed;
 use crate::sphere;
 
 /// A projection as the archive's callers keep it.
 type Numbers = [f64; 36];
+
+/// The place of the number that says which kind it is.
+pub const KIND: usize = 0;
 
 /// From this place on, the numbers of an Albers.
 const ALBERS: usize = 1;
@@ -154,6 +158,28 @@ unsafe extern "C" {
         qs: usize,
         numbers: *mut u8,
         ns: usize,
+    ) -> u8;
+    safe fn lenthuc_inverse_on_map(
+        projection: &Numbers,
+        easting: f64,
+        northing: f64,
+        lon: &mut f64,
+        lat: &mut f64,
+        number: &mut u8,
+    ) -> u8;
+    fn lenthuc_inverse_on_map_column(
+        projection: &Numbers,
+        easting: *const f64,
+        eastings: usize,
+        northing: *const f64,
+        northings: usize,
+        lon: *mut f64,
+        lons: usize,
+        lat: *mut f64,
+        lats: usize,
+        numbers: *mut u8,
+        ns: usize,
+        number: &mut u8,
     ) -> u8;
     fn lenthuc_ring_area(
         projection: &Numbers,
@@ -318,6 +344,102 @@ fn column_by(way: u8, projection: &Numbers, u: &[f64], v: &[f64], filled: &mut C
     // SAFETY: it reads two slices and writes three others, each with its length.
     let said = unsafe { column(projection, u, us, v, vs, p, ps, q, qs, numbers, ns) };
     assert_eq!(said, 0, "the columns have one length");
+}
+
+/// The projection of a click.
+fn built_for_click(click: &Click) -> (Numbers, u8) {
+    match click.in_area() {
+        None => built(&click.line),
+        Some(question) => built_with(&question),
+    }
+}
+
+/// What the first inverse answers to a click.
+pub fn first(click: &Click) -> Answer {
+    answer_by(built_for_click(click), &click.line)
+}
+
+/// What the second answers; none where the kind has none.
+pub fn on_map(click: &Click) -> Option<Answer> {
+    let (projection, refused) = built_for_click(click);
+    let answer = on_map_by(&projection, &click.line);
+    let own = answer.is_some_and(|answer| answer.number == refused);
+    assert!(
+        refused == 0 || own,
+        "a refused projection gives its own number"
+    );
+    answer
+}
+
+/// What the results of a click are before the call, which no answer has.
+const BEFORE: (f64, f64, u8) = (f64::MAX, f64::MIN, 99);
+
+fn on_map_by(projection: &Numbers, line: &Line) -> Option<Answer> {
+    let [.., x, y] = line.fields;
+    let (mut lon, mut lat, mut number) = BEFORE;
+    match lenthuc_inverse_on_map(projection, x, y, &mut lon, &mut lat, &mut number) {
+        0 => {
+            let untouched = (lon, lat, number) == BEFORE;
+            assert!(untouched, "nothing is written where there is none");
+            None
+        }
+        1 => {
+            let (p, q) = (lon.to_bits(), lat.to_bits());
+            Some(Answer { number, p, q })
+        }
+        other => panic!("neither 0 nor 1: {other}"),
+    }
+}
+
+/// What both answer by a click's projection with these of its numbers replaced, the second first.
+pub fn both_replaced(click: &Click, replaced: &[(usize, f64)]) -> (Option<Answer>, Answer) {
+    let (mut projection, _) = built_for_click(click);
+    for &(place, number) in replaced {
+        projection[place] = number;
+    }
+    let first = answer_by((projection, 0), &click.line);
+    (on_map_by(&projection, &click.line), first)
+}
+
+/// What says in a projection's numbers that it is of a kind.
+pub fn number_of_kind(kind: u8) -> f64 {
+    let named = [(F, 0.1), (LAT1, 0.5), (LAT2, 0.5)];
+    built(&cases::line(&[b'I', kind], &named)).0[KIND]
+}
+
+/// The second inverse of a column: the number that it gives; none where the kind has none.
+pub fn on_map_column(click: &Click, x: &[f64], y: &[f64], filled: &mut Columns) -> Option<u8> {
+    let (projection, _) = built_for_click(click);
+    let Columns { p, q, numbers } = filled;
+    let (xs, ys, ps, qs, ns) = (x.len(), y.len(), p.len(), q.len(), numbers.len());
+    let (x, y, numbers) = (x.as_ptr(), y.as_ptr(), numbers.as_mut_ptr());
+    let (p, q) = (p.as_mut_ptr(), q.as_mut_ptr());
+    let (.., mut number) = BEFORE;
+    // SAFETY: it reads two slices and writes three others, each with its length, and a number.
+    let said = unsafe {
+        lenthuc_inverse_on_map_column(
+            &projection,
+            x,
+            xs,
+            y,
+            ys,
+            p,
+            ps,
+            q,
+            qs,
+            numbers,
+            ns,
+            &mut number,
+        )
+    };
+    match said {
+        0 => {
+            assert_eq!(number, BEFORE.2, "nothing is written where there is none");
+            None
+        }
+        1 => Some(number),
+        other => panic!("neither 0 nor 1: {other}"),
+    }
 }
 
 /// The projection of a ring.

@@ -3,6 +3,7 @@
 use crate::area::Area;
 use crate::built::Built;
 use crate::ellipsoid::Ellipsoid;
+use crate::on_map::InverseOnMap;
 use crate::outcome::Outcome;
 use crate::projection::{Projection, Sealed};
 use crate::raw::Way;
@@ -125,12 +126,36 @@ macro_rules! projection {
     };
 }
 
+/// The second inverse of a type whose kinds have one.
+macro_rules! inverse_on_map {
+    ($name:ident) => {
+        impl InverseOnMap for $name {
+            fn inverse_on_map(&self, easting: f64, northing: f64) -> Answer {
+                self.0.point(Way::InverseOnMap, easting, northing)
+            }
+
+            fn inverse_on_map_column(
+                &self,
+                easting: &[f64],
+                northing: &[f64],
+                lon: &mut [f64],
+                lat: &mut [f64],
+                outcomes: &mut [Outcome],
+            ) -> Result<(), UnequalLengths> {
+                self.0
+                    .column(Way::InverseOnMap, [easting, northing], [lon, lat], outcomes)
+            }
+        }
+    };
+}
+
 /// Lambert azimuthal equal-area (EPSG method 9820), or its spherical form (1027), about a pole or any
 /// other origin.
 ///
 /// A point is refused by number 16, 17, 18 or 19 [forward](Projection::forward), and by 20, 23 or 24
-/// [back](Projection::inverse); with an [`Area`] also by 26, both ways. It keeps areas, and has
-/// [rings](Projection::ring): one is refused by 27, by a point's number forward, or by 28.
+/// [back](Projection::inverse); with an [`Area`] also by 26, both ways. It has a [second
+/// inverse](InverseOnMap), which refuses by 30 too. It keeps areas, and has [rings](Projection::ring):
+/// one is refused by 27, by a point's number forward, or by 28.
 #[derive(Clone, Copy, PartialEq)]
 pub struct LambertAzimuthalEqualArea(Built);
 
@@ -189,6 +214,7 @@ impl LambertAzimuthalEqualArea {
 }
 
 projection!(LambertAzimuthalEqualArea: lat0);
+inverse_on_map!(LambertAzimuthalEqualArea);
 
 /// Albers equal-area conic (EPSG method 9822).
 ///
@@ -268,8 +294,9 @@ projection!(AlbersEqualArea: lat0 lat1 lat2);
 /// Equal Earth (EPSG method 1078).
 ///
 /// A point is refused by number 16, 17 or 19 [forward](Projection::forward), and by 20, 22, 23 or 24
-/// [back](Projection::inverse); with an [`Area`] also by 26, both ways. It keeps areas, and has
-/// [rings](Projection::ring): one is refused by 27, by a point's number forward, or by 28.
+/// [back](Projection::inverse); with an [`Area`] also by 26, both ways. It has a [second
+/// inverse](InverseOnMap), which refuses by 30 too. It keeps areas, and has [rings](Projection::ring):
+/// one is refused by 27, by a point's number forward, or by 28.
 #[derive(Clone, Copy, PartialEq)]
 pub struct EqualEarth(Built);
 
@@ -296,6 +323,7 @@ impl EqualEarth {
 }
 
 projection!(EqualEarth:);
+inverse_on_map!(EqualEarth);
 
 /// Cassini-Soldner (EPSG method 9806).
 ///

@@ -66,6 +66,29 @@
 //! as it is. So an edge that is not normalised may leave out the places on it: [`Area`] says more.
 //! [`Area::from_degrees`] normalises.
 //!
+//! # Clicks beside the map
+//!
+//! A drawn map may have a frame, and a click in it is no place. [`Projection::inverse`] gives most such
+//! clicks one all the same. [`InverseOnMap`] is a second inverse that refuses them, and answers the
+//! others as the first does. Lambert and Equal Earth have it.
+//!
+//! ```
+//! use lenthuc::{EqualEarth, InverseOnMap, Projection, Refusal, WGS84};
+//!
+//! let world = EqualEarth::new(WGS84, 0.0, 0.0, 0.0)?;
+//!
+//! // A click on the map.
+//! let (lon, lat) = world.inverse_on_map_degrees(1.0e7, 5.0e6)?;
+//! assert_eq!(format!("{lon:.2} {lat:.2}"), "118.21 40.71");
+//! assert_eq!(world.inverse_degrees(1.0e7, 5.0e6), Ok((lon, lat)));
+//!
+//! // One in the frame east of it, which the first inverse takes for a place in the west.
+//! assert_eq!(world.inverse_on_map(1.7e7, 5.0e6), Err(Refusal::OffTheMap));
+//! let (lon, lat) = world.inverse_degrees(1.7e7, 5.0e6)?;
+//! assert_eq!(format!("{lon:.2} {lat:.2}"), "-159.05 40.71");
+//! # Ok::<(), Refusal>(())
+//! ```
+//!
 //! # The area of a catchment
 //!
 //! [`Projection::ring`] takes the corners of a ring, longitudes and latitudes, and gives its area and
@@ -145,6 +168,7 @@ mod built;
 mod ellipsoid;
 mod kinds;
 mod nearest;
+mod on_map;
 mod outcome;
 mod projection;
 #[allow(unsafe_code)]
@@ -191,6 +215,7 @@ pub use kinds::{
     LambertAzimuthalEqualArea,
 };
 pub use nearest::{NEAREST_SCHOOLS, nearest, nearest_into};
+pub use on_map::InverseOnMap;
 pub use outcome::Outcome;
 pub use projection::Projection;
 pub use refusal::{Answer, Refusal, UnequalLengths};

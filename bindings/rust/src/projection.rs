@@ -277,7 +277,7 @@ pub trait Projection: Sealed + Debug + Send + Sync {
 }
 
 /// The answers to points by a function of columns.
-fn each<C>(points: &[(f64, f64)], column: C) -> Vec<Answer>
+pub(crate) fn each<C>(points: &[(f64, f64)], column: C) -> Vec<Answer>
 where
     C: FnOnce(&[f64], &[f64], &mut [f64], &mut [f64], &mut [Outcome]) -> Result<(), UnequalLengths>,
 {

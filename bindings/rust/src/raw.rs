@@ -58,6 +58,14 @@ unsafe extern "C" {
         lon: &mut f64,
         lat: &mut f64,
     ) -> Outcome;
+    safe fn lenthuc_inverse_on_map(
+        projection: &Numbers,
+        easting: f64,
+        northing: f64,
+        lon: &mut f64,
+        lat: &mut f64,
+        number: &mut Outcome,
+    ) -> u8;
     fn lenthuc_forward_column(
         projection: &Numbers,
         lon: *const f64,
@@ -83,6 +91,20 @@ unsafe extern "C" {
         lats: usize,
         numbers: *mut Outcome,
         ns: usize,
+    ) -> u8;
+    fn lenthuc_inverse_on_map_column(
+        projection: &Numbers,
+        easting: *const f64,
+        eastings: usize,
+        northing: *const f64,
+        northings: usize,
+        lon: *mut f64,
+        lons: usize,
+        lat: *mut f64,
+        lats: usize,
+        numbers: *mut Outcome,
+        ns: usize,
+        number: &mut u8,
     ) -> u8;
     fn lenthuc_ring_area(
         projection: &Numbers,
@@ -120,11 +142,18 @@ fn check_version() {
     );
 }
 
-/// Forward from a longitude and latitude, or back from an easting and northing.
+/// Forward from a longitude and latitude, or back from an easting and northing, by the first inverse
+/// or by the second.
 #[derive(Clone, Copy)]
 pub(crate) enum Way {
     Forward,
     Inverse,
+    InverseOnMap,
+}
+
+/// The second inverse is asked of kinds alone that have one, by `InverseOnMap`.
+fn check_second_inverse(has: u8) {
+    assert!(has == 1, "libcapi.a has no second inverse for this kind");
 }
 
 /// Of an ellipsoid by its flattening.
@@ -157,12 +186,17 @@ pub(crate) fn build(kind: u8, settings: &Ordered, area: Option<Edges>) -> (Outco
 
 /// Of a point, and its two results.
 pub(crate) fn point(way: Way, projection: &Numbers, u: f64, v: f64) -> (Outcome, f64, f64) {
-    let function = match way {
-        Way::Forward => lenthuc_forward,
-        Way::Inverse => lenthuc_inverse,
-    };
     let (mut p, mut q) = (0.0, 0.0);
-    let outcome = function(projection, u, v, &mut p, &mut q);
+    let outcome = match way {
+        Way::Forward => lenthuc_forward(projection, u, v, &mut p, &mut q),
+        Way::Inverse => lenthuc_inverse(projection, u, v, &mut p, &mut q),
+        Way::InverseOnMap => {
+            let mut outcome = Outcome::default();
+            let has = lenthuc_inverse_on_map(projection, u, v, &mut p, &mut q, &mut outcome);
+            check_second_inverse(has);
+            outcome
+        }
+    };
     (outcome, p, q)
 }
 
@@ -175,28 +209,38 @@ pub(crate) fn column(
     [p, q]: [&mut [f64]; 2],
     outcomes: &mut [Outcome],
 ) -> u8 {
-    let function = match way {
-        Way::Forward => lenthuc_forward_column,
-        Way::Inverse => lenthuc_inverse_column,
-    };
+    macro_rules! lent {
+        ($function:ident $(, $more:expr)?) => {
+            $function(
+                projection,
+                u.as_ptr(),
+                u.len(),
+                v.as_ptr(),
+                v.len(),
+                p.as_mut_ptr(),
+                p.len(),
+                q.as_mut_ptr(),
+                q.len(),
+                outcomes.as_mut_ptr(),
+                outcomes.len(),
+                $($more)?
+            )
+        };
+    }
     // SAFETY: each pointer and the length after it are of one slice. The function reads u and v
     // and writes p, q and outcomes, each within its length, and keeps no pointer; the borrows say
     // that the written ones overlap nothing else. It tests itself whether the lengths are equal.
     // An `Outcome` may hold any byte.
     unsafe {
-        function(
-            projection,
-            u.as_ptr(),
-            u.len(),
-            v.as_ptr(),
-            v.len(),
-            p.as_mut_ptr(),
-            p.len(),
-            q.as_mut_ptr(),
-            q.len(),
-            outcomes.as_mut_ptr(),
-            outcomes.len(),
-        )
+        match way {
+            Way::Forward => lent!(lenthuc_forward_column),
+            Way::Inverse => lent!(lenthuc_inverse_column),
+            Way::InverseOnMap => {
+                let mut number = 0;
+                check_second_inverse(lent!(lenthuc_inverse_on_map_column, &mut number));
+                number
+            }
+        }
     }
 }
 

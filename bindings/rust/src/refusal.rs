@@ -13,8 +13,8 @@ macro_rules! refusals {
         /// Why there is no answer.
         ///
         /// Where several apply, the first is given: by [`number`](Refusal::number), but latitude
-        /// setting by latitude setting, and 26 before 18 and 19. A ring is checked by 27, then point by
-        /// point, then by 28.
+        /// setting by latitude setting, 26 before 18 and 19, and 30 after 20, or after 22 where it is of
+        /// Equal Earth's longitude. A ring is checked by 27, then point by point, then by 28.
         #[derive(Clone, Copy, Debug, PartialEq, Eq, Hash)]
         #[non_exhaustive]
         #[repr(u8)]
@@ -78,6 +78,7 @@ refusals! {
     RingForm = 27, "the ring's lists have unequal lengths, it has fewer than 3 or more than 4,096 corners, or its projection is of another kind than L, S, A and E";
     RingResult = 28, "a buffer is shorter than the ring's points, or the area worked out is not a finite number";
     NearestInput = 29, "there are no schools or more than 256, the lists have unequal lengths, the list for the order is shorter, or a coordinate is not a finite number or above 1e8 in size";
+    OffTheMap = 30, "the easting and northing lie off the map, beyond its edge";
 }
 
 impl fmt::Display for Refusal {

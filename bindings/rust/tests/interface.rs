@@ -1,10 +1,13 @@
 //! What `lenthuc.h` says and no type of the crate can ask: the version, any letter, projections that
-//! are refused or that no one built, areas that no one checked, results of refusals, a ring's too,
-//! and pointers of length 0.
+//! are refused or that no one built, areas that no one checked, kinds without a second inverse, results
+//! of refusals, a ring's too, and pointers of length 0.
 
 mod common;
 
-use common::{BOUND, Bits, EARTH, Edges, KINDS, NANS, Random, Settings, holds, next_down, next_up};
+use common::{
+    BOUND, Bits, EARTH, Edges, KINDS, NANS, ON_MAP_KINDS, Random, Settings, holds, next_down,
+    next_up,
+};
 use std::f64::consts::{FRAC_PI_2, PI};
 use std::ptr;
 
@@ -31,6 +34,14 @@ unsafe extern "C" {
     ) -> u8;
     safe fn lenthuc_forward(map: &Numbers, u: f64, v: f64, p: &mut f64, q: &mut f64) -> u8;
     safe fn lenthuc_inverse(map: &Numbers, u: f64, v: f64, p: &mut f64, q: &mut f64) -> u8;
+    safe fn lenthuc_inverse_on_map(
+        map: &Numbers,
+        u: f64,
+        v: f64,
+        p: &mut f64,
+        q: &mut f64,
+        number: &mut u8,
+    ) -> u8;
     fn lenthuc_forward_column(
         map: &Numbers,
         u: *const f64,
@@ -56,6 +67,20 @@ unsafe extern "C" {
         qs: usize,
         numbers: *mut u8,
         ns: usize,
+    ) -> u8;
+    fn lenthuc_inverse_on_map_column(
+        map: &Numbers,
+        u: *const f64,
+        us: usize,
+        v: *const f64,
+        vs: usize,
+        p: *mut f64,
+        ps: usize,
+        q: *mut f64,
+        qs: usize,
+        numbers: *mut u8,
+        ns: usize,
+        number: &mut u8,
     ) -> u8;
     fn lenthuc_ring_area(
         map: &Numbers,
@@ -112,12 +137,56 @@ fn unchecked(map: &Numbers, edges: Edges) -> Numbers {
     map
 }
 
+/// What the second inverse gives for a point, into places that hold others before. None where the
+/// projection has none: they hold the same after.
+fn on_map(map: &Numbers, u: f64, v: f64) -> Option<Bits> {
+    let (mut p, mut q, mut number) = (7.0, 8.0, 99);
+    let has = lenthuc_inverse_on_map(map, u, v, &mut p, &mut q, &mut number);
+    assert!(has == 1 || (has, p, q, number) == (0, 7.0, 8.0, 99));
+    (has == 1).then_some((number, p.to_bits(), q.to_bits()))
+}
+
+/// What it gives for columns, of which the northings' may be shorter: *number, and what three columns
+/// hold. None as above.
+fn on_map_column(map: &Numbers, u: &[f64], v: &[f64]) -> Option<(u8, Vec<Bits>)> {
+    let count = u.len();
+    let (mut p, mut q, mut numbers) = (vec![7.0; count], vec![8.0; count], vec![9; count]);
+    let mut number = 99;
+    // SAFETY: each pointer and the length after it are of one slice.
+    let has = unsafe {
+        lenthuc_inverse_on_map_column(
+            map,
+            u.as_ptr(),
+            count,
+            v.as_ptr(),
+            v.len(),
+            p.as_mut_ptr(),
+            count,
+            q.as_mut_ptr(),
+            count,
+            numbers.as_mut_ptr(),
+            count,
+            &mut number,
+        )
+    };
+    let place = |i: usize| (numbers[i], p[i].to_bits(), q[i].to_bits());
+    let places: Vec<_> = (0..count).map(place).collect();
+    assert!(has == 1 || (has, number) == (0, 99) && places == untouched(count));
+    (has == 1).then_some((number, places))
+}
+
+/// What columns hold that `on_map_column` lends.
+fn untouched(count: usize) -> Vec<Bits> {
+    vec![(9, f64::to_bits(7.0), f64::to_bits(8.0)); count]
+}
+
 /// What a projection answers to the points, which is the same by single calls, into places that hold
-/// NaN before, and by columns.
+/// NaN before, and by columns. Its second inverse, if it has one, gives the same for points back but for
+/// those that it refuses by 30.
 fn answers(map: &Numbers) -> [[Bits; 3]; 2] {
     let singles = [lenthuc_forward, lenthuc_inverse];
     let columns = [lenthuc_forward_column, lenthuc_inverse_column];
-    [0, 1].map(|way| {
+    let found = [0, 1].map(|way| {
         let single = POINTS[way].map(|(u, v)| {
             let (mut p, mut q) = (f64::NAN, f64::NAN);
             let number = singles[way](map, u, v, &mut p, &mut q);
@@ -148,7 +217,26 @@ fn answers(map: &Numbers) -> [[Bits; 3]; 2] {
         let column = [0, 1, 2].map(|i| (numbers[i], p[i].to_bits(), q[i].to_bits()));
         assert_eq!(column, single);
         single
-    })
+    });
+    let second = POINTS[1].map(|(u, v)| on_map(map, u, v));
+    for (second, first) in second.into_iter().zip(found[1]) {
+        assert!(second.is_none_or(|bits| bits == first || bits == (30, 0, 0)));
+    }
+    let (u, v) = (
+        POINTS[1].map(|point| point.0),
+        POINTS[1].map(|point| point.1),
+    );
+    let column = on_map_column(map, &u, &v);
+    let expected: Option<Vec<_>> = second.into_iter().collect();
+    assert_eq!(column, expected.map(|places| (0, places)));
+    found
+}
+
+/// Whether a projection has a second inverse; and where it was refused, whether that gives its number.
+fn has_second_inverse(map: &Numbers, refused: Option<u8>) -> bool {
+    let second = on_map(map, f64::NAN, 0.0);
+    assert!(second.is_none_or(|bits| bits == (refused.unwrap_or(20), 0, 0)));
+    second.is_some()
 }
 
 /// What a projection that was refused answers: its number to every point, and +0.
@@ -385,6 +473,48 @@ fn rings_that_are_refused() {
     }
 }
 
+/// L, S and E have a second inverse, with an area or without one. The others have none, whatever they are
+/// asked; but a projection that was refused has one, of any kind, and so have numbers that hold none.
+#[test]
+fn second_inverses() {
+    let edges = [0.1, 0.4, 0.5, 0.8];
+    let (u, v) = ([2e5, 1e300, f64::NAN], [-3e5, 0.0, 0.0]);
+    for kind in KINDS {
+        let has = ON_MAP_KINDS.contains(&kind);
+        for (number, map) in [build(kind, EARTH), build_in(edges, kind, EARTH)] {
+            assert_eq!(number, 0);
+            assert_eq!(has_second_inverse(&map, None), has);
+            let columns = on_map_column(&map, &u, &v);
+            assert_eq!(columns.is_some(), has);
+            if let Some((number, places)) = columns {
+                assert_eq!((number, places[1], places[2]), (0, (30, 0, 0), (20, 0, 0)));
+            }
+            // of unequal lengths too, and of none
+            let unequal = has.then(|| (255, untouched(3)));
+            assert_eq!(on_map_column(&map, &u, &v[1..]), unequal);
+            assert_eq!(on_map_column(&map, &[], &[]), has.then(|| (0, vec![])));
+        }
+        for place in [0, 1, 2, 6, 7] {
+            let mut settings = EARTH;
+            settings[place] = f64::NAN;
+            let (number, map) = build(kind, settings);
+            assert!((4..=10).contains(&number));
+            assert!(has_second_inverse(&map, Some(number)));
+            let places = vec![(number, 0, 0); 3];
+            assert_eq!(on_map_column(&map, &u, &v), Some((0, places)));
+            let unequal = Some((255, untouched(3)));
+            assert_eq!(on_map_column(&map, &u, &v[1..]), unequal);
+        }
+        let (_, map) = build_in([f64::NAN; 4], kind, EARTH);
+        assert!(has_second_inverse(&map, Some(25)));
+    }
+    for map in [[0.0; 36], [f64::NAN; 36], build(b'x', EARTH).1] {
+        assert!(has_second_inverse(&map, Some(LINE_FORM)));
+    }
+    let sphere = [1.0, 0.0, 0.0, 0.0, 0.0, 0.0, 0.0, 0.0];
+    assert!(has_second_inverse(&build(b'G', sphere).1, Some(11)));
+}
+
 /// The flag is 1, or there is no area, whatever stands after it.
 #[test]
 fn no_area() {
@@ -611,6 +741,26 @@ fn null_of_length_0() {
                 };
                 assert_eq!(said, 0);
             }
+            let mut number = 99;
+            // SAFETY: as above.
+            let has = unsafe {
+                lenthuc_inverse_on_map_column(
+                    &map,
+                    inputs,
+                    0,
+                    inputs,
+                    0,
+                    results,
+                    0,
+                    results,
+                    0,
+                    numbers,
+                    0,
+                    &mut number,
+                )
+            };
+            let expected = ON_MAP_KINDS.contains(&kind) || settings != EARTH;
+            assert_eq!((has, number), if expected { (1, 0) } else { (0, 99) });
         }
     }
 }

@@ -2,7 +2,10 @@
 
 mod common;
 
-use common::{EARTH, KINDS, Random, Settings, WAYS, build, build_in, next_up, project};
+use common::{
+    EARTH, KINDS, ON_MAP_KINDS, Random, Settings, WAYS, build, build_in, build_on_map, next_up,
+    project,
+};
 use lenthuc::{Ellipsoid, Refusal, UnequalLengths, nearest, nearest_into};
 use std::collections::HashSet;
 use std::error::Error;
@@ -198,8 +201,20 @@ fn of_nearest_schools() {
     assert_eq!(short, Err(Refusal::NearestInput));
 }
 
+#[test]
+fn of_clicks_off_the_map() {
+    for kind in ON_MAP_KINDS {
+        let map = build_on_map(kind, EARTH, None).expect("a map of the Earth");
+        assert_eq!(map.inverse_on_map(6e5, -1e5), map.inverse(6e5, -1e5));
+        for (x, y) in [(4e7, 0.0), (0.0, -4e7)] {
+            assert_eq!(map.inverse_on_map(x, y), Err(Refusal::OffTheMap));
+            assert!(map.inverse(x, y).is_ok());
+        }
+    }
+}
+
 /// Each kind refuses by the numbers that its documents list, and by no others: with an area by 25 and 26
-/// too, and without one never.
+/// too, and without one never. A second inverse has the first's and 30.
 #[test]
 fn of_each_kind_alone() {
     let mut random = Random(8);
@@ -242,35 +257,46 @@ fn of_each_kind_alone() {
                     continue;
                 }
             };
+            let check = |refusal: Refusal, numbers: &[u8]| {
+                let of_the_area = has_area && refusal == Refusal::OutsideArea;
+                let known = numbers.contains(&refusal.number()) || of_the_area;
+                assert!(known, "{map:?} {refusal:?}");
+            };
             for (way, numbers) in WAYS.into_iter().zip([forward, inverse]) {
                 let (u, v) = (random.input(way), random.input(way));
                 if let Err(refusal) = project(&*map, way, u, v) {
-                    let known = numbers.contains(&refusal.number());
-                    let of_the_area = has_area && refusal == Refusal::OutsideArea;
-                    assert!(known || of_the_area, "{map:?} {refusal:?}");
+                    check(refusal, numbers);
+                }
+            }
+            if ON_MAP_KINDS.contains(&kind) {
+                let map = build_on_map(kind, settings, has_area.then_some(edges)).expect("it");
+                let (u, v) = (random.input(b'I'), random.input(b'I'));
+                match map.inverse_on_map(u, v) {
+                    Ok(_) | Err(Refusal::OffTheMap) => (),
+                    Err(refusal) => check(refusal, inverse),
                 }
             }
         }
     }
 }
 
-/// Numbers name refusals and refusals have numbers, 3 to 29, and no other number is one.
+/// Numbers name refusals and refusals have numbers, 3 to 30, and no other number is one.
 #[test]
 fn by_number() {
     for number in 0..=u8::MAX {
         let named = Refusal::from_number(number);
-        assert_eq!(named.is_some(), (3..=29).contains(&number), "{number}");
+        assert_eq!(named.is_some(), (3..=30).contains(&number), "{number}");
         assert_eq!(named.map(Refusal::number), named.map(|_| number));
     }
 }
 
 #[test]
 fn as_errors() {
-    let messages: HashSet<_> = (3..=29)
+    let messages: HashSet<_> = (3..=30)
         .filter_map(Refusal::from_number)
         .map(|refusal| refusal.to_string())
         .collect();
-    assert_eq!(messages.len(), 27, "each has its own message");
+    assert_eq!(messages.len(), 28, "each has its own message");
     assert!(messages.iter().all(|message| message.len() > 20));
     let boxed: Box<dyn Error + Send + Sync> = Box::new(Refusal::Antipode);
     assert_eq!(boxed.downcast_ref(), Some(&Refusal::Antipode));

@@ -7,6 +7,7 @@ use native.Mathlib.Omega.{arith}
 use lib.Ieee.{Float}
 use Rattle.refusals.specs.Refusals.{LINE-FORM}
 use Rattle.projection.specs.declared.Answer.the-variants.{Refused}
+use Rattle.projection.specs.declared.Frame.{Frame}
 use Rattle.projection.proofs.NeverZero.{NeverZero}
 use Rattle.letters.specs.Letters.{is-kind, kind-of}
 use Rattle.letters.specs.declared.Way.{Way}
@@ -32,8 +33,8 @@ pub build-in-area-never-zero : (kind : ℕ) (l area : List Float) → NeverZero 
 unfolding build-in-area
 build-in-area-never-zero kind l area = of-kinds.with-area-never-zero (build kind l) (edges area) (build-never-zero kind l)
 
-pub answer-never-zero : (way : Way) (l : List Float) (u v : Float) → NeverZero Refused (kinds.answer way (unpacked l) u v)
-answer-never-zero way l u v = of-kinds.answer-never-zero way (unpacked l) u v (unpacked-never-zero l)
+pub answer-never-zero : (frame : Frame) (way : Way) (l : List Float) (u v : Float) → NeverZero Refused (kinds.answer-in frame way (unpacked l) u v)
+answer-never-zero frame way l u v = of-kinds.answer-never-zero frame way (unpacked l) u v (unpacked-never-zero l)
 
 pub ring-never-zero : (l lon lat : List Float) (eastings northings : ℕ) → NeverZero ring.Refused (ring-area (unpacked l) lon lat eastings northings)
 ring-never-zero l lon lat eastings northings = of-rings.ring-never-zero (unpacked l) (unpacked-never-zero l) lon lat eastings northings

@@ -6,5 +6,6 @@ mod longitudes;
 mod points;
 mod rings;
 mod schools;
+mod second;
 mod sheets;
 mod version;

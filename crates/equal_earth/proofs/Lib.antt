@@ -1,2 +1,3 @@
 pub mod AsInSource
 pub mod NeverZero
+pub mod OffTheMap

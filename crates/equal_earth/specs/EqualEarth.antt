@@ -4,22 +4,26 @@ use mathlib.Core.Path.{_≡_, refl}
 use mathlib.Core.List.{List, [], _∷_}
 use mathlib.Core.Bool.{cond}
 use Prim.Native.Nat.{ℕ, _^_}
-use lib.Ieee.{Float, neg, ofBits, round, mul, div}
+use lib.Ieee.{Float, neg, ofBits, round, add, mul, div}
 use Rattle.float.specs.Operators.{_⊕_, _⊖_, _⊗_, _⊘_, _≈_, f64}
-use Rattle.float.specs.Constants.{+0, half, one, two, three, FRAC-PI-2, ratio}
+use Rattle.float.specs.Constants.{+0, half, one, two, three, PI, FRAC-PI-2, ratio}
+use Rattle.float.specs.Sign.{abs}
 use Rattle.float.specs.Limits.{clamp}
 use Rattle.root.specs.Root.{root}
 use Rattle.trigonometry.specs.Trigonometry.{sine, cosine}
 use Rattle.fixed.specs.Arctangent.{arcsine}
 use Rattle.ellipsoid.specs.Ellipsoid.{e2}
 use Rattle.ellipsoid.specs.declared.Ellipsoid.{Ellipsoid}
+use Rattle.refusals.specs.Refusals.{OFF-THE-MAP}
 use Rattle.authalic.specs.Authalic.{authalic-q, geodetic-from-authalic}
 use Rattle.projection.specs.Checks.{guard, validate-settings, validate-projected}
 use Rattle.projection.specs.Starts.{enter, entered}
 use Rattle.projection.specs.Iteration.{converge}
 use Rattle.projection.specs.Ends.{ensure-finite-xy, finish}
+use Rattle.projection.specs.MapEdge.{EDGE-EPSILON, beyond-edge}
 use Rattle.projection.specs.declared.Answer.{Answer}
 use Rattle.projection.specs.declared.Answer.the-variants.{Pair, Refused}
+use Rattle.projection.specs.declared.Frame.{Frame}
 use Rattle.projection.specs.declared.Solution.{Solution}
 use Rattle.projection.specs.declared.Solution.the-variants as solution
 use Rattle.equal_earth.specs.declared.EqualEarth.{EqualEarth}
@@ -53,6 +57,13 @@ M = f64 0x3febb67ae8584caa
 abbrev pub MAX-Y : Float
 MAX-Y = f64 0x3ff513eaf8f8ca2b
 
+-- 02's limits, each summed once: beyond the map's edge the northing on the unit sphere, or the longitude from the origin, is above them in size
+abbrev pub EDGE-Y : Float
+EDGE-Y = f64 0x3ff513eaf8f8dbc3
+
+abbrev pub EDGE-LON : Float
+EDGE-LON = f64 0x400921fb544435e4
+
 abbrev pub TOLERANCE : Float
 TOLERANCE = f64 0x3da5fd7fe1796495
 
@@ -61,9 +72,9 @@ STEPS = 15
 
 -- what the constants stand for, and that the authalic radius of the unit sphere is 1
 pub constants :
-    (A1 ∷ A2 ∷ A3 ∷ A4 ∷ c7 ∷ c9 ∷ M ∷ MAX-Y ∷ TOLERANCE ∷ one ∷ [])
-    ≡ (ratio 1340264 (10 ^ 6) ∷ neg (ratio 81106 (10 ^ 6)) ∷ ratio 893 (10 ^ 6) ∷ ratio 3796 (10 ^ 6) ∷ ratio 7 1 ∷ ratio 9 1 ∷ root three ⊘ two ∷ ratio 13173627591574 (10 ^ 13) ∷ ratio 1 (10 ^ 11) ∷ root (half ⊗ two) ∷ [])
-unfolding ofBits round neg mul div root
+    (A1 ∷ A2 ∷ A3 ∷ A4 ∷ c7 ∷ c9 ∷ M ∷ MAX-Y ∷ EDGE-Y ∷ EDGE-LON ∷ TOLERANCE ∷ one ∷ [])
+    ≡ (ratio 1340264 (10 ^ 6) ∷ neg (ratio 81106 (10 ^ 6)) ∷ ratio 893 (10 ^ 6) ∷ ratio 3796 (10 ^ 6) ∷ ratio 7 1 ∷ ratio 9 1 ∷ root three ⊘ two ∷ ratio 13173627591574 (10 ^ 13) ∷ MAX-Y ⊕ EDGE-EPSILON ∷ PI ⊕ EDGE-EPSILON ∷ ratio 1 (10 ^ 11) ∷ root (half ⊗ two) ∷ [])
+unfolding ofBits round neg add mul div root
 constants = refl
 
 -- dy/dψ, the derivative of the paper's polynomial, by ψ² and ψ⁶
@@ -122,28 +133,34 @@ newton ys yc =
 unfoldable pub psi-of-northing : Float → Solution
 psi-of-northing ys = converge (newton ys) ys STEPS TOLERANCE
 
--- λ = λ0 + (√3 / 2) x dy/dψ / cos ψ on the unit sphere: 01's formula's longitude
-unfoldable pub longitude : EqualEarth → Float → Float → Float
-longitude p xs psi =
+-- λ - λ0 = (√3 / 2) x dy/dψ / cos ψ on the unit sphere
+unfoldable pub longitude-from-origin : Float → Float → Float
+longitude-from-origin xs psi =
     let psi2 = psi ⊗ psi in
     let psi6 = psi2 ⊗ psi2 ⊗ psi2 in
-    p .lon0 ⊕ M ⊗ xs ⊗ y-derivative psi2 psi6 ⊘ cosine psi
+    M ⊗ xs ⊗ y-derivative psi2 psi6 ⊘ cosine psi
 
 -- sin β = sin ψ / (√3 / 2), held to [-1, 1], since rounding may bring it past. On a sphere the series (Snyder 3-18) leaves β as it is: specs/AsInSource.
 unfoldable pub latitude : EqualEarth → Float → Float
 latitude p psi = geodetic-from-authalic (arcsine (clamp (sine psi ⊘ M) (neg one) one)) (p .e2)
 
--- the formula's answer once the rounds have ended
-unfoldable pub place : EqualEarth → Float → Solution → Answer
-place p xs (solution.Found psi) = Pair (longitude p xs psi) (latitude p psi)
-place p xs (solution.Refused n) = Refused n
+-- Once the rounds have ended: 30 (document 02, Q-6), judged before λ0 is added, or the place with 01's "formula's longitude".
+unfoldable pub place : Frame → EqualEarth → Float → Solution → Answer
+place frame p xs (solution.Found psi) =
+    let d-lon = longitude-from-origin xs psi in
+    cond (beyond-edge frame (abs d-lon) EDGE-LON) (Refused OFF-THE-MAP) (Pair (p .lon0 ⊕ d-lon) (latitude p psi))
+place frame p xs (solution.Refused n) = Refused n
 
--- A scaled northing off the map is answered as the map's edge. The papers have no such rule.
-unfoldable pub formula : EqualEarth → Float → Float → Answer
-formula p x y =
+-- A scaled northing off the map is refused by 30, or held to the map's edge. The papers have no such rule.
+unfoldable pub scaled-place : Frame → EqualEarth → Float → Float → Answer
+scaled-place frame p xs ys =
+    cond (beyond-edge frame (abs ys) EDGE-Y) (Refused OFF-THE-MAP) (place frame p xs (psi-of-northing (clamp ys (neg MAX-Y) MAX-Y)))
+
+unfoldable pub formula : Frame → EqualEarth → Float → Float → Answer
+formula frame p x y =
     let scale = p .a ⊗ p .rqda in
-    let ys = clamp ((y ⊖ p .«false_northing») ⊘ scale) (neg MAX-Y) MAX-Y in
-    guard (validate-projected x y) Refused (place p ((x ⊖ p .«false_easting») ⊘ scale) (psi-of-northing ys))
+    guard (validate-projected x y) Refused (scaled-place frame p ((x ⊖ p .«false_easting») ⊘ scale) ((y ⊖ p .«false_northing») ⊘ scale))
 
-unfoldable pub inverse : EqualEarth → Float → Float → Answer
-inverse p x y = finish (formula p x y)
+-- the first inverse, which holds a click in the frame to the map's edge, and the second, which refuses it
+unfoldable pub inverse : Frame → EqualEarth → Float → Float → Answer
+inverse frame p x y = finish (formula frame p x y)

@@ -1,7 +1,7 @@
 // Equal Earth (EPSG method 1078): the source's equal_earth.rs.
 ghost use mathlib.Core.Path.{_≡_};
 ghost use Rattle.projection.specs.OnTheMap.{OnTheMap};
-ghost use Rattle.equal_earth.specs.EqualEarth.{y-derivative, y-over-psi, polar-q, derived, new, sin-beta, projected, forward, newton, psi-of-northing, place, formula, inverse};
+ghost use Rattle.equal_earth.specs.EqualEarth.{y-derivative, y-over-psi, polar-q, derived, new, sin-beta, projected, forward, newton, psi-of-northing, place, scaled-place, formula, inverse};
 use authalic::authalic_q;
 use authalic::geodetic_from_authalic;
 use ellipsoid::Ellipsoid;
@@ -11,12 +11,15 @@ use float::abs;
 use float::clamp;
 use projection::Answer;
 use projection::Entrance;
+use projection::Frame;
 use projection::Solution;
+use projection::beyond_edge;
 use projection::ensure_finite_xy;
 use projection::enter;
 use projection::finish;
 use projection::validate_projected;
 use projection::validate_settings;
+use refusals::OFF_THE_MAP;
 use refusals::STEPS_USED_UP;
 use root::root;
 use trigonometry::cos;
@@ -79,6 +82,11 @@ fn polar_q(e2: f64) -> f64
 impl EqualEarth {
     // The pole's northing on the unit sphere, to which the inverse clamps.
     const MAX_Y: f64 = 1.3173627591574;
+
+    // Document 02's limits, the pole's northing and π, each plus 1e-12: specs/EqualEarth.antt has the theorem.
+    const EDGE_Y: f64 = f64::from_bits(0x3ff5_13ea_f8f8_dbc3);
+
+    const EDGE_LON: f64 = f64::from_bits(0x4009_21fb_5444_35e4);
 
     // The inverse's rounds, and the difference below which they end.
     const STEPS: usize = 15;
@@ -181,39 +189,58 @@ impl EqualEarth {
     }
 
     // The place of an easting on the unit sphere and a parametric latitude. Its longitude is not normalised yet.
-    fn place(self, xs: f64, solution: Solution) -> Answer
-        ensures { λ r. ⌜ r ≡ place self xs solution ⌝ }
+    fn place(self, frame: Frame, xs: f64, solution: Solution) -> Answer
+        ensures { λ r. ⌜ r ≡ place frame self xs solution ⌝ }
     {
         match solution {
             Solution::Found(psi) => {
                 let psi2 = psi * psi;
                 let psi6 = psi2 * psi2 * psi2;
                 let sc = sin_cos(psi);
-                let lon = self.lon0 + M * xs * y_derivative(psi2, psi6) / sc.cos;
-                let beta = asin(clamp(sc.sin / M, -1.0, 1.0));
-                Answer::Pair(lon, geodetic_from_authalic(beta, self.e2))
+                let d_lon = M * xs * y_derivative(psi2, psi6) / sc.cos;
+                if beyond_edge(frame, abs(d_lon), Self::EDGE_LON) {
+                    Answer::Refused(OFF_THE_MAP)
+                } else {
+                    let beta = asin(clamp(sc.sin / M, -1.0, 1.0));
+                    Answer::Pair(self.lon0 + d_lon, geodetic_from_authalic(beta, self.e2))
+                }
             }
             Solution::Refused(n) => Answer::Refused(n),
         }
     }
 
-    fn formula(self, x: f64, y: f64) -> Answer
-        ensures { λ r. ⌜ r ≡ formula self x y ⌝ }
+    // The place of an easting and a northing on the unit sphere.
+    fn scaled_place(self, frame: Frame, xs: f64, ys: f64) -> Answer
+        ensures { λ r. ⌜ r ≡ scaled-place frame self xs ys ⌝ }
+    {
+        if beyond_edge(frame, abs(ys), Self::EDGE_Y) {
+            Answer::Refused(OFF_THE_MAP)
+        } else {
+            let held = clamp(ys, -Self::MAX_Y, Self::MAX_Y);
+            self.place(frame, xs, Self::psi_of_northing(held))
+        }
+    }
+
+    fn formula(self, frame: Frame, x: f64, y: f64) -> Answer
+        ensures { λ r. ⌜ r ≡ formula frame self x y ⌝ }
     {
         let fault = validate_projected(x, y);
         if fault == 0 {
             let scale = self.a * self.rqda;
-            let xs = (x - self.false_easting) / scale;
-            let ys = clamp((y - self.false_northing) / scale, -Self::MAX_Y, Self::MAX_Y);
-            self.place(xs, Self::psi_of_northing(ys))
+            self.scaled_place(
+                frame,
+                (x - self.false_easting) / scale,
+                (y - self.false_northing) / scale,
+            )
         } else {
             Answer::Refused(fault)
         }
     }
 
-    pub fn inverse(self, x: f64, y: f64) -> Answer
-        ensures { λ r. ⌜ (r ≡ inverse self x y) × OnTheMap (formula self x y) r ⌝ }
+    // The first inverse, or the second, by what it does with a click in the frame.
+    pub fn inverse(self, frame: Frame, x: f64, y: f64) -> Answer
+        ensures { λ r. ⌜ (r ≡ inverse frame self x y) × OnTheMap (formula frame self x y) r ⌝ }
     {
-        finish(self.formula(x, y))
+        finish(self.formula(frame, x, y))
     }
 }

@@ -1,1 +1,2 @@
 pub mod GuamProjection
+pub mod Opened

@@ -16,6 +16,7 @@ use Rattle.projection.specs.declared.Answer.{Answer}
 use Rattle.projection.specs.declared.Answer.the-variants as answered
 use Rattle.projection.specs.declared.Area.{Area}
 use Rattle.projection.specs.declared.AreaOfUse.the-variants.{Anywhere, Inside}
+use Rattle.projection.specs.declared.Frame.the-variants.{Held}
 use Rattle.projection.proofs.Entered.{checked-once}
 use Rattle.projection.proofs.InArea.{inside-anywhere, inside-passed, inside-answered, answered-in-units}
 use Rattle.projection.proofs.Refusal.{guard-passed, guard-refused, guard-or-else}
@@ -36,7 +37,7 @@ use Rattle.letters.specs.declared.Kind.the-variants.{L, S, A, E, C, P, G}
 use Rattle.letters.specs.declared.Way.{Way}
 use Rattle.letters.specs.declared.Way.the-variants.{Forward, Inverse}
 use Rattle.letters.specs.declared.Settings.{Settings}
-use Rattle.kinds.specs.Kinds.{made, new, number-of, built-number, is-refused, forward-of, forward, formula-of, formula, inverse-of, inverse, answer, refused, on-ellipsoid, build, project, with-area}
+use Rattle.kinds.specs.Kinds.{made, new, number-of, built-number, is-refused, forward-of, forward, formula-of, formula-in, formula, inverse-of, inverse, inverse-in, answer-in, refused, on-ellipsoid, build, project, with-area}
 use Rattle.kinds.specs.declared.Built.{Built}
 use Rattle.kinds.specs.declared.Built.the-variants.{Lambert, Albers, Equal, Cassini, Polyconic, Guam, Refused}
 use Rattle.kinds.specs.declared.Projection.{Projection}
@@ -106,20 +107,20 @@ module _ (p : Projection) (lon lat : Float) where
 -- ---- back
 
 module _ (p : Projection) (x y : Float) where
-  pub inverse-anywhere : p .area ≡ Anywhere → inverse p x y ≡ inverse-of (p .built) (p .en) x y
-  unfolding inverse
-  inverse-anywhere e = rw e (inside-anywhere (inverse-of (p .built) (p .en) x y))
+  pub inverse-anywhere : p .area ≡ Anywhere → inverse p x y ≡ inverse-of Held (p .built) (p .en) x y
+  unfolding inverse-in
+  inverse-anywhere e = rw e (inside-anywhere (inverse-of Held (p .built) (p .en) x y))
 
   -- a place inside that the kind answers has the same bits, and so what is answered is the kind's own answer
-  pub inverse-inside : (lon lat : Float) → inverse-of (p .built) (p .en) x y ≡ answered.Pair lon lat → validate-normalised (p .area) lon lat ≡ 0
+  pub inverse-inside : (lon lat : Float) → inverse-of Held (p .built) (p .en) x y ≡ answered.Pair lon lat → validate-normalised (p .area) lon lat ≡ 0
       → inverse p x y ≡ answered.Pair lon lat
-  unfolding inverse
+  unfolding inverse-in
   inverse-inside lon lat e z = rw e (inside-passed (p .area) lon lat z)
 
   pub inverse-answered : (lon lat : Float) → inverse p x y ≡ answered.Pair lon lat
-      → (inverse-of (p .built) (p .en) x y ≡ answered.Pair lon lat) × (validate-normalised (p .area) lon lat ≡ 0)
-  unfolding inverse
-  inverse-answered lon lat e = inside-answered (p .area) (inverse-of (p .built) (p .en) x y) lon lat e
+      → (inverse-of Held (p .built) (p .en) x y ≡ answered.Pair lon lat) × (validate-normalised (p .area) lon lat ≡ 0)
+  unfolding inverse-in
+  inverse-answered lon lat e = inside-answered (p .area) (inverse-of Held (p .built) (p .en) x y) lon lat e
 
 -- ---- building
 
@@ -145,11 +146,11 @@ build-anywhere kind a f s = go (from-a-f a f)
 -- so a point of a sheet, or of any projection built without an area, is answered as document 01 says
 abbrev pub by-kind : Way → Projection → Float → Float → Answer
 by-kind Forward p u v = forward-of (p .built) (p .en) u v
-by-kind Inverse p u v = inverse-of (p .built) (p .en) u v
+by-kind Inverse p u v = inverse-of Held (p .built) (p .en) u v
 
 pub project-anywhere : (way : Way) (kind : Kind) (a f : Float) (s : Settings) (u v : Float)
     → project way kind a f s u v ≡ by-kind way (build kind a f s) u v
-unfolding project answer
+unfolding project answer-in
 project-anywhere Forward kind a f s u v = forward-anywhere (build kind a f s) u v (build-anywhere kind a f s)
 project-anywhere Inverse kind a f s u v = inverse-anywhere (build kind a f s) u v (build-anywhere kind a f s)
 
@@ -174,7 +175,7 @@ module _ (p : Projection) (area : Area) (x y lon lat : Float) where
   pub with-area-in-units : OnTheMap (formula (with-area p area) x y) (inverse (with-area p area) x y)
       → InArea (with-area p area .area) (inverse (with-area p area) x y)
       → inverse (with-area p area) x y ≡ answered.Pair lon lat → InUnits area lon lat
-  unfolding with-area guard refused inverse inverse-of formula-of finish ensure-inside
+  unfolding with-area guard refused inverse-in inverse-of formula-in formula-of finish ensure-inside
   with-area-in-units = go (or-else (built-number p) (validate-area area)) refl
     where
       inside : Projection

@@ -1,3 +1,4 @@
 pub mod Unused
 pub mod AreaOfUse
+pub mod OffTheMap
 pub mod NeverZero

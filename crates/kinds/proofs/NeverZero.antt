@@ -16,6 +16,8 @@ use Rattle.projection.specs.declared.Answer.{Answer}
 use Rattle.projection.specs.declared.Answer.the-variants as answered
 use Rattle.projection.specs.declared.Area.{Area}
 use Rattle.projection.specs.declared.AreaOfUse.the-variants.{Inside}
+use Rattle.projection.specs.declared.Frame.{Frame}
+use Rattle.projection.specs.declared.Frame.the-variants.{Held}
 use Rattle.projection.proofs.NeverZero.{NeverZero, refusal-never-zero, cond-never-zero, guarded-never-zero, inside-never-zero}
 use Rattle.lambert_azimuthal_equal_area.specs.Inverse as laea
 use Rattle.lambert_azimuthal_equal_area.proofs.NeverZero as laea-proofs
@@ -47,7 +49,7 @@ use Rattle.letters.specs.declared.Kind.the-variants.{L, S, A, E, C, P, G}
 use Rattle.letters.specs.declared.Way.{Way}
 use Rattle.letters.specs.declared.Way.the-variants.{Forward, Inverse}
 use Rattle.letters.specs.declared.Settings.{Settings}
-use Rattle.kinds.specs.Kinds.{lambert, albers, equal-earth, cassini, polyconic, guam, made, new, built-number, is-refused, forward, forward-of, formula-of, inverse-of, inverse, answer, refused, on-ellipsoid, build, project, with-area, build-in-area}
+use Rattle.kinds.specs.Kinds.{lambert, albers, equal-earth, cassini, polyconic, guam, made, new, built-number, is-refused, forward, forward-of, formula-of, inverse-of, inverse-in, answer-in, refused, on-ellipsoid, build, project, with-area, build-in-area}
 use Rattle.kinds.specs.declared.Built.{Built}
 use Rattle.kinds.specs.declared.Built.the-variants.{Lambert, Albers, Equal, Cassini, Polyconic, Guam, Refused}
 use Rattle.kinds.specs.declared.Projection.{Projection}
@@ -141,25 +143,25 @@ forward-never-zero (Polyconic p) en u v h = poly-proofs.forward-never-zero p en 
 forward-never-zero (Guam p) en u v h = gm-proofs.forward-never-zero p en u v
 forward-never-zero (Refused k) en u v h = handed Refused answered.Refused answered-one k h
 
-inverse-never-zero : (b : Built) (en : List Float) (u v : Float) → NeverZero Refused b → NeverZero answered.Refused (inverse-of b en u v)
+inverse-never-zero : (frame : Frame) (b : Built) (en : List Float) (u v : Float) → NeverZero Refused b → NeverZero answered.Refused (inverse-of frame b en u v)
 unfolding inverse-of formula-of finish laea.inverse aea.inverse eqearth.inverse cass.inverse poly.inverse gm.inverse
-inverse-never-zero (Lambert p) en u v h = laea-proofs.inverse-never-zero p u v
-inverse-never-zero (Albers p) en u v h = aea-proofs.inverse-never-zero p u v
-inverse-never-zero (Equal p) en u v h = eqearth-proofs.inverse-never-zero p u v
-inverse-never-zero (Cassini p) en u v h = cass-proofs.inverse-never-zero p u v
-inverse-never-zero (Polyconic p) en u v h = poly-proofs.inverse-never-zero p en u v
-inverse-never-zero (Guam p) en u v h = gm-proofs.inverse-never-zero p en u v
-inverse-never-zero (Refused k) en u v h = handed Refused answered.Refused answered-one k h
+inverse-never-zero frame (Lambert p) en u v h = laea-proofs.inverse-never-zero frame p u v
+inverse-never-zero frame (Albers p) en u v h = aea-proofs.inverse-never-zero p u v
+inverse-never-zero frame (Equal p) en u v h = eqearth-proofs.inverse-never-zero frame p u v
+inverse-never-zero frame (Cassini p) en u v h = cass-proofs.inverse-never-zero p u v
+inverse-never-zero frame (Polyconic p) en u v h = poly-proofs.inverse-never-zero p en u v
+inverse-never-zero frame (Guam p) en u v h = gm-proofs.inverse-never-zero p en u v
+inverse-never-zero frame (Refused k) en u v h = handed Refused answered.Refused answered-one k h
 
-pub answer-never-zero : (way : Way) (p : Projection) (u v : Float) → NeverZero Refused (p .built) → NeverZero answered.Refused (answer way p u v)
-unfolding answer forward inverse
-answer-never-zero Forward p u v h =
+pub answer-never-zero : (frame : Frame) (way : Way) (p : Projection) (u v : Float) → NeverZero Refused (p .built) → NeverZero answered.Refused (answer-in frame way p u v)
+unfolding answer-in forward inverse-in
+answer-never-zero frame Forward p u v h =
     let by-kind = forward-never-zero (p .built) (p .en) u v h in
     cond-never-zero answered.Refused (is-refused (p .built)) by-kind
     (guarded-never-zero (or-else (validate-lon-lat u v) (validate-place (p .area) u v)) (forward-of (p .built) (p .en) u v) by-kind)
-answer-never-zero Inverse p u v h =
-    inside-never-zero (p .area) (inverse-of (p .built) (p .en) u v) (inverse-never-zero (p .built) (p .en) u v h)
+answer-never-zero frame Inverse p u v h =
+    inside-never-zero (p .area) (inverse-of frame (p .built) (p .en) u v) (inverse-never-zero frame (p .built) (p .en) u v h)
 
 pub project-never-zero : (way : Way) (kind : Kind) (a f : Float) (s : Settings) (u v : Float) → NeverZero answered.Refused (project way kind a f s u v)
 unfolding project
-project-never-zero way kind a f s u v = answer-never-zero way (build kind a f s) u v (build-never-zero kind a f s)
+project-never-zero way kind a f s u v = answer-never-zero Held way (build kind a f s) u v (build-never-zero kind a f s)

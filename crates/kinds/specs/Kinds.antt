@@ -16,6 +16,8 @@ use Rattle.projection.specs.declared.Answer.{Answer}
 use Rattle.projection.specs.declared.Answer.the-variants as answered
 use Rattle.projection.specs.declared.Area.{Area}
 use Rattle.projection.specs.declared.AreaOfUse.the-variants.{Anywhere, Inside}
+use Rattle.projection.specs.declared.Frame.{Frame}
+use Rattle.projection.specs.declared.Frame.the-variants as frame
 use Rattle.lambert_azimuthal_equal_area.specs.LambertAzimuthalEqualArea as laea
 use Rattle.lambert_azimuthal_equal_area.specs.Forward as laea-forward
 use Rattle.lambert_azimuthal_equal_area.specs.Inverse as laea-inverse
@@ -45,6 +47,8 @@ use Rattle.letters.specs.declared.Settings.{Settings}
 use Rattle.kinds.specs.declared.Built.{Built}
 use Rattle.kinds.specs.declared.Built.the-variants.{Lambert, Albers, Equal, Cassini, Polyconic, Guam, Refused}
 use Rattle.kinds.specs.declared.Projection.{Projection}
+use Rattle.kinds.specs.declared.SecondInverse.{SecondInverse}
+use Rattle.kinds.specs.declared.SecondInverse.the-variants.{Gives, Missing}
 
 -- ---- what the constructor of a kind answers, as a choice
 
@@ -134,36 +138,65 @@ forward p lon lat =
     let by-kind = forward-of (p .built) (p .en) lon lat in
     cond (is-refused (p .built)) by-kind (guard (or-else (validate-lon-lat lon lat) (validate-place (p .area) lon lat)) answered.Refused by-kind)
 
--- the place before its longitude is normalised, with 01's "formula's longitude"
-unfoldable pub formula-of : Built → List Float → Float → Float → Answer
-formula-of (Lambert p) en x y = laea-inverse.formula p x y
-formula-of (Albers p) en x y = aea.formula p x y
-formula-of (Equal p) en x y = eqearth.formula p x y
-formula-of (Cassini p) en x y = cass.formula p x y
-formula-of (Polyconic p) en x y = poly.formula p en x y
-formula-of (Guam p) en x y = gm.formula p en x y
-formula-of (Refused n) en x y = answered.Refused n
+-- The place before its longitude is normalised, with 01's "formula's longitude". Lambert and Equal Earth hold a click in the map's frame to its edge, or refuse it;
+-- the others know no frame.
+unfoldable pub formula-of : Frame → Built → List Float → Float → Float → Answer
+formula-of frame (Lambert p) en x y = laea-inverse.formula frame p x y
+formula-of frame (Albers p) en x y = aea.formula p x y
+formula-of frame (Equal p) en x y = eqearth.formula frame p x y
+formula-of frame (Cassini p) en x y = cass.formula p x y
+formula-of frame (Polyconic p) en x y = poly.formula p en x y
+formula-of frame (Guam p) en x y = gm.formula p en x y
+formula-of frame (Refused n) en x y = answered.Refused n
 
-unfoldable pub formula : Projection → Float → Float → Answer
+unfoldable pub formula-in : Frame → Projection → Float → Float → Answer
 unfolding formula-of
-formula p x y = formula-of (p .built) (p .en) x y
+formula-in frame p x y = formula-of frame (p .built) (p .en) x y
 
 -- back by the kind alone
-unfoldable pub inverse-of : Built → List Float → Float → Float → Answer
+unfoldable pub inverse-of : Frame → Built → List Float → Float → Float → Answer
 unfolding formula-of
-inverse-of b en x y = finish (formula-of b en x y)
+inverse-of frame b en x y = finish (formula-of frame b en x y)
 
 -- 26 stands last, and is about the place that would be handed out
-unfoldable pub inverse : Projection → Float → Float → Answer
+unfoldable pub inverse-in : Frame → Projection → Float → Float → Answer
 unfolding inverse-of
-inverse p x y = ensure-inside (p .area) (inverse-of (p .built) (p .en) x y)
+inverse-in frame p x y = ensure-inside (p .area) (inverse-of frame (p .built) (p .en) x y)
 
--- ---- one point, as a line of a sheet asks for it
+-- the first inverse, which is 01's: a click in the frame is held to the map's edge
+abbrev pub formula : Projection → Float → Float → Answer
+formula = formula-in frame.Held
 
-unfoldable pub answer : Way → Projection → Float → Float → Answer
-unfolding forward inverse
-answer Forward p u v = forward p u v
-answer Inverse p u v = inverse p u v
+abbrev pub inverse : Projection → Float → Float → Answer
+inverse = inverse-in frame.Held
+
+-- ---- the second inverse, which refuses a click in the frame by 30: document 02, Q-6
+
+-- L, S and E have one. A projection that was refused does not say its kind, and answers by its own number here too.
+unfoldable pub has-second-inverse : Built → Bool
+has-second-inverse (Lambert p) = true
+has-second-inverse (Albers p) = false
+has-second-inverse (Equal p) = true
+has-second-inverse (Cassini p) = false
+has-second-inverse (Polyconic p) = false
+has-second-inverse (Guam p) = false
+has-second-inverse (Refused n) = true
+
+-- that another kind has none is no refusal, and has no number
+unfoldable pub inverse-on-map : Projection → Float → Float → SecondInverse
+unfolding has-second-inverse inverse-in
+inverse-on-map p x y = cond (has-second-inverse (p .built)) (Gives (inverse-in frame.Refused p x y)) Missing
+
+-- ---- one point, as a line of a sheet or of a column asks for it
+
+unfoldable pub answer-in : Frame → Way → Projection → Float → Float → Answer
+unfolding forward inverse-in
+answer-in frame Forward p u v = forward p u v
+answer-in frame Inverse p u v = inverse-in frame p u v
+
+-- by the first inverse, as on every sheet
+abbrev pub answer : Way → Projection → Float → Float → Answer
+answer = answer-in frame.Held
 
 -- no projection, and why
 unfoldable pub refused : ℕ → Projection
@@ -180,7 +213,7 @@ build kind a f s = on-ellipsoid kind s (from-a-f a f)
 
 -- the projection's checks, then the point's
 unfoldable pub project : Way → Kind → Float → Float → Settings → Float → Float → Answer
-unfolding answer build
+unfolding answer-in build
 project way kind a f s u v = answer way (build kind a f s) u v
 
 -- ---- with an area of use

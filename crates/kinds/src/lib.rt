@@ -2,11 +2,12 @@
 mod by_kind;
 mod choices;
 mod points;
+mod second;
 
 ghost use mathlib.Core.Path.{_≡_};
 ghost use Rattle.projection.specs.OnTheMap.{OnTheMap};
 ghost use Rattle.projection.specs.InArea.{InArea};
-ghost use Rattle.kinds.specs.Kinds.{new, forward, formula, inverse, with-area};
+ghost use Rattle.kinds.specs.Kinds.{new, forward, formula, inverse, formula-in, inverse-in, with-area};
 use albers_equal_area::AlbersEqualArea;
 use american_polyconic::AmericanPolyconic;
 use by_kind::forward_of;
@@ -27,6 +28,7 @@ use letters::Kind;
 use letters::Settings;
 use letters::used;
 pub use points::answer;
+pub use points::answer_in;
 pub use points::build;
 pub use points::build_in_area;
 pub use points::built_number;
@@ -35,6 +37,7 @@ pub use points::refused;
 use projection::Answer;
 use projection::Area;
 use projection::AreaOfUse;
+use projection::Frame;
 use projection::ensure_inside;
 use projection::or_else;
 use projection::validate_area;
@@ -57,6 +60,12 @@ pub struct Projection {
     pub built: Built,
     pub en: [f64; 13],
     pub area: AreaOfUse,
+}
+
+// What the second inverse gives. Albers, Cassini-Soldner, polyconic and Guam have none.
+pub enum SecondInverse {
+    Gives(Answer),
+    Missing,
 }
 
 impl Projection {
@@ -138,10 +147,17 @@ impl Projection {
     pub fn inverse(self, x: f64, y: f64) -> Answer
         ensures { λ r. ⌜ (r ≡ inverse self x y) × OnTheMap (formula self x y) r × InArea (self .area) r ⌝ }
     {
+        self.inverse_in(Frame::Held, x, y)
+    }
+
+    // The same by what is done with a click in the frame.
+    pub(crate) fn inverse_in(self, frame: Frame, x: f64, y: f64) -> Answer
+        ensures { λ r. ⌜ (r ≡ inverse-in frame self x y) × OnTheMap (formula-in frame self x y) r × InArea (self .area) r ⌝ }
+    {
         let built = self.built;
         let en = self.en;
         let area = self.area;
-        ensure_inside(area, inverse_of(built, en, x, y))
+        ensure_inside(area, inverse_of(frame, built, en, x, y))
     }
 
     // The projection with an area in place of the one that it has, if any. A refused one stays refused, by its own number.

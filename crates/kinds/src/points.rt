@@ -1,7 +1,7 @@
 // One point, as a line of a sheet asks for it.
 ghost use mathlib.Core.Path.{_≡_};
-ghost use Rattle.kinds.specs.Kinds.{refused, build, build-in-area, built-number, answer, project};
-ghost use Rattle.kinds.specs.OnTheMap.{PointOnTheMap};
+ghost use Rattle.kinds.specs.Kinds.{refused, build, build-in-area, built-number, answer, answer-in, project};
+ghost use Rattle.kinds.specs.OnTheMap.{PointOnTheMap, PointOnTheMapIn};
 use crate::Built;
 use crate::Projection;
 use ellipsoid::BuiltEllipsoid;
@@ -12,6 +12,7 @@ use letters::Way;
 use projection::Answer;
 use projection::Area;
 use projection::AreaOfUse;
+use projection::Frame;
 
 // A projection that was refused: it answers every point by the number n.
 pub fn refused(n: u8) -> Projection
@@ -61,9 +62,16 @@ pub fn built_number(p: Projection) -> u8
 pub fn answer(way: Way, p: Projection, u: f64, v: f64) -> Answer
     ensures { λ r. ⌜ (r ≡ answer way p u v) × PointOnTheMap way p u v r ⌝ }
 {
+    answer_in(Frame::Held, way, p, u, v)
+}
+
+// The same; an inverse by what it does with a click in the frame. Whether the kind has a second inverse is not asked here.
+pub fn answer_in(frame: Frame, way: Way, p: Projection, u: f64, v: f64) -> Answer
+    ensures { λ r. ⌜ (r ≡ answer-in frame way p u v) × PointOnTheMapIn frame way p u v r ⌝ }
+{
     match way {
         Way::Forward => p.forward(u, v),
-        Way::Inverse => p.inverse(u, v),
+        Way::Inverse => p.inverse_in(frame, u, v),
     }
 }
 

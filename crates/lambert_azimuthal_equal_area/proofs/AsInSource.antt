@@ -13,15 +13,18 @@ use Rattle.ellipsoid.proofs.Negated.{zero-finite, not-above, not-above-first}
 use Rattle.refusals.specs.Refusals.{POLAR-Q, ORIGIN-NEAR-POLE, ORIGIN-SCALE}
 use Rattle.authalic.specs.Authalic.{geodetic-from-authalic}
 use Rattle.projection.specs.Checks.{guard, or-else}
+use Rattle.projection.specs.MapEdge.{beyond-edge}
 use Rattle.projection.specs.declared.Answer.the-variants.{Pair}
+use Rattle.projection.specs.declared.Frame.the-variants.{Held}
 use Rattle.projection.proofs.Refusal.{guard-refused, guard-passed, guard-or-else}
 use Rattle.projection.proofs.AsInSource.{origin-as-in-source}
 use Rattle.lambert_azimuthal_equal_area.specs.LambertAzimuthalEqualArea.{POLAR-EPSILON, RHO-EPSILON, derived, validate-positive, validate-origin, fault, checked, built}
-use Rattle.lambert_azimuthal_equal_area.specs.Inverse.{bounded-arcsine, polar-place}
+use Rattle.lambert_azimuthal_equal_area.specs.Inverse.{judge, judged, bounded-arcsine, polar-place}
 use Rattle.lambert_azimuthal_equal_area.specs.AsInSource.{source-scale-check, source-origin-check, source-checked, source-built, source-polar-place}
 use Rattle.lambert_azimuthal_equal_area.specs.declared.Aspect.{Aspect}
 use Rattle.lambert_azimuthal_equal_area.specs.declared.Aspect.the-variants.{Oblique, NorthPolar, SouthPolar}
 use Rattle.lambert_azimuthal_equal_area.specs.declared.LambertAzimuthalEqualArea.{LambertAzimuthalEqualArea}
+use Rattle.lambert_azimuthal_equal_area.specs.declared.inverse.Click.the-variants.{AtCentre, OnMap}
 use Rattle.lambert_azimuthal_equal_area.specs.declared.BuiltLambertAzimuthalEqualArea.{BuiltLambertAzimuthalEqualArea}
 use Rattle.lambert_azimuthal_equal_area.specs.declared.BuiltLambertAzimuthalEqualArea.the-variants.{Built, Refused}
 
@@ -69,15 +72,15 @@ built-as-in-source ellipsoid lon0 lat0 false-easting false-northing spherical =
     rw (checked-as-in-source (derived ellipsoid lon0 lat0 false-easting false-northing spherical))
     (origin-as-in-source lon0 lat0 false-easting false-northing Refused (checked (derived ellipsoid lon0 lat0 false-easting false-northing spherical)))
 
--- ---- the inverse about a pole
+-- ---- the first inverse about a pole
 pub polar-place-as-in-source : (p : LambertAzimuthalEqualArea) (rho q-over-q-p d-lon : Float)
-    → source-polar-place p rho q-over-q-p d-lon ≡ polar-place p rho q-over-q-p d-lon
-unfolding polar-place
+    → source-polar-place p rho q-over-q-p d-lon ≡ polar-place Held p rho q-over-q-p d-lon
+unfolding polar-place judge judged beyond-edge
 polar-place-as-in-source p rho q-over-q-p d-lon = go (rho ≺ RHO-EPSILON)
   where
     go : (b : Bool)
         → Pair (cond b (p .lon0) (p .lon0 ⊕ d-lon)) (geodetic-from-authalic (cond b (p .lat0) (bounded-arcsine q-over-q-p)) (p .e2))
-        ≡ cond b (Pair (p .lon0) (geodetic-from-authalic (p .lat0) (p .e2)))
+        ≡ judged (cond b AtCentre OnMap) (Pair (p .lon0) (geodetic-from-authalic (p .lat0) (p .e2)))
         (Pair (p .lon0 ⊕ d-lon) (geodetic-from-authalic (bounded-arcsine q-over-q-p) (p .e2)))
     go true = refl
     go false = refl

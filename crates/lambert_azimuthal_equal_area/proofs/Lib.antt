@@ -1,2 +1,3 @@
 pub mod AsInSource
+pub mod OffTheMap
 pub mod NeverZero

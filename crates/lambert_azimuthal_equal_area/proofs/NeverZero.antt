@@ -4,21 +4,25 @@ use mathlib.Core.Path.{_≡_}
 use mathlib.Core.Bool.{Bool, true, false}
 use native.Mathlib.Omega.{arith}
 use lib.Ieee.{Float}
-use Rattle.float.specs.Operators.{_⊕_, _⊗_, _⊘_, _≺_, _≼_}
+use Rattle.float.specs.Operators.{_⊕_, _⊗_, _≼_}
 use Rattle.float.specs.Constants.{+0, one}
 use Rattle.trigonometry.specs.Trigonometry.{sine, cosine}
 use Rattle.authalic.specs.Authalic.{authalic-latitude}
-use Rattle.refusals.specs.Refusals.{ANTIPODE}
+use Rattle.refusals.specs.Refusals.{ANTIPODE, OFF-THE-MAP}
 use Rattle.ellipsoid.specs.declared.Ellipsoid.{Ellipsoid}
 use Rattle.projection.specs.Checks.{validate-settings}
+use Rattle.projection.specs.declared.Answer.{Answer}
 use Rattle.projection.specs.declared.Answer.the-variants.{Refused}
+use Rattle.projection.specs.declared.Frame.{Frame}
 use Rattle.projection.proofs.NeverZero.{NeverZero, OneNumber, guard-never-zero, cond-never-zero, refused-never-zero, pair-never-zero, xy-never-zero, entered-never-zero, guarded-never-zero, finish-never-zero}
-use Rattle.lambert_azimuthal_equal_area.specs.LambertAzimuthalEqualArea.{RHO-EPSILON, derived, fault, checked, built, new, new-spherical}
+use Rattle.lambert_azimuthal_equal_area.specs.LambertAzimuthalEqualArea.{derived, fault, checked, built, new, new-spherical}
 use Rattle.lambert_azimuthal_equal_area.specs.Forward.{spherical-forward, north-polar-forward, south-polar-forward, oblique-forward, ellipsoidal-forward, projected, forward}
-use Rattle.lambert_azimuthal_equal_area.specs.Inverse.{distance, spherical-formula, polar-place, north-polar-formula, south-polar-formula, oblique-formula, ellipsoidal-formula, place, formula, inverse}
+use Rattle.lambert_azimuthal_equal_area.specs.Inverse.{judge, judged, spherical-formula, polar-place, north-polar-formula, south-polar-formula, oblique-formula, ellipsoidal-formula, place, formula, inverse}
 use Rattle.lambert_azimuthal_equal_area.specs.declared.Aspect.{Aspect}
 use Rattle.lambert_azimuthal_equal_area.specs.declared.Aspect.the-variants.{Oblique, NorthPolar, SouthPolar}
 use Rattle.lambert_azimuthal_equal_area.specs.declared.LambertAzimuthalEqualArea.{LambertAzimuthalEqualArea}
+use Rattle.lambert_azimuthal_equal_area.specs.declared.inverse.Click.{Click}
+use Rattle.lambert_azimuthal_equal_area.specs.declared.inverse.Click.the-variants.{AtCentre, InFrame, OnMap}
 use Rattle.lambert_azimuthal_equal_area.specs.declared.BuiltLambertAzimuthalEqualArea.the-variants as answer
 
 -- ---- the constructors
@@ -69,19 +73,25 @@ forward-never-zero p lon lat =
     (λ d-lon. cond-never-zero Refused (p .spherical) (sphere-never-zero p d-lon lat) (ellipsoid-never-zero p d-lon (p .aspect) _))
 
 -- ---- inverse
-module _ (p : LambertAzimuthalEqualArea) (dx dy : Float) where
-  sphere-place : NeverZero Refused (spherical-formula p dx dy)
+judged-never-zero : (click : Click) {centre place : Answer} → NeverZero Refused centre → NeverZero Refused place → NeverZero Refused (judged click centre place)
+unfolding judged
+judged-never-zero AtCentre h k = h
+judged-never-zero InFrame h k = refused-never-zero OFF-THE-MAP (omega arith)
+judged-never-zero OnMap h k = k
+
+module _ (frame : Frame) (p : LambertAzimuthalEqualArea) (dx dy : Float) where
+  sphere-place : NeverZero Refused (spherical-formula frame p dx dy)
   unfolding spherical-formula
-  sphere-place = cond-never-zero Refused (distance dx dy ≺ RHO-EPSILON) (pair-never-zero _ _) (pair-never-zero _ _)
+  sphere-place = judged-never-zero (judge frame _ _) (pair-never-zero _ _) (pair-never-zero _ _)
 
-  ellipsoid-place : (aspect : Aspect) → NeverZero Refused (ellipsoidal-formula aspect p dx dy)
+  ellipsoid-place : (aspect : Aspect) → NeverZero Refused (ellipsoidal-formula aspect frame p dx dy)
   unfolding ellipsoidal-formula north-polar-formula south-polar-formula polar-place oblique-formula
-  ellipsoid-place NorthPolar = cond-never-zero Refused (distance dx dy ≺ RHO-EPSILON) (pair-never-zero _ _) (pair-never-zero _ _)
-  ellipsoid-place SouthPolar = cond-never-zero Refused (distance dx dy ≺ RHO-EPSILON) (pair-never-zero _ _) (pair-never-zero _ _)
-  ellipsoid-place Oblique = cond-never-zero Refused (distance (dx ⊘ p .d) (p .d ⊗ dy) ≺ RHO-EPSILON) (pair-never-zero _ _) (pair-never-zero _ _)
+  ellipsoid-place NorthPolar = judged-never-zero (judge frame _ _) (pair-never-zero _ _) (pair-never-zero _ _)
+  ellipsoid-place SouthPolar = judged-never-zero (judge frame _ _) (pair-never-zero _ _) (pair-never-zero _ _)
+  ellipsoid-place Oblique = judged-never-zero (judge frame _ _) (pair-never-zero _ _) (pair-never-zero _ _)
 
-pub inverse-never-zero : (p : LambertAzimuthalEqualArea) (x y : Float) → NeverZero Refused (inverse p x y)
+pub inverse-never-zero : (frame : Frame) (p : LambertAzimuthalEqualArea) (x y : Float) → NeverZero Refused (inverse frame p x y)
 unfolding inverse formula place
-inverse-never-zero p x y =
-    finish-never-zero (formula p x y)
-    (guarded-never-zero _ _ (cond-never-zero Refused (p .spherical) (sphere-place p _ _) (ellipsoid-place p _ _ (p .aspect))))
+inverse-never-zero frame p x y =
+    finish-never-zero (formula frame p x y)
+    (guarded-never-zero _ _ (cond-never-zero Refused (p .spherical) (sphere-place frame p _ _) (ellipsoid-place frame p _ _ (p .aspect))))

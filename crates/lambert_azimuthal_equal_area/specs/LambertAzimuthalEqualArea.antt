@@ -3,7 +3,7 @@ use mathlib.Core.Path.{_≡_, refl}
 use mathlib.Core.Bool.{Bool, true, false, cond, _&&_}
 use mathlib.Core.List.{List, [], _∷_}
 use Prim.Native.Nat.{ℕ, _^_}
-use lib.Ieee.{Float, ofBits, round}
+use lib.Ieee.{Float, ofBits, round, add}
 use lib.Ieee.Scale.{finite}
 use Rattle.float.specs.Operators.{_⊕_, _⊖_, _⊗_, _⊘_, _≺_, f64}
 use Rattle.float.specs.Constants.{+0, one, two, FRAC-PI-2, ratio}
@@ -15,6 +15,7 @@ use Rattle.ellipsoid.specs.declared.Ellipsoid.{Ellipsoid}
 use Rattle.refusals.specs.Refusals.{POLAR-Q, ORIGIN-NEAR-POLE, ORIGIN-SCALE}
 use Rattle.authalic.specs.Authalic.{authalic-q, authalic-latitude}
 use Rattle.projection.specs.Checks.{or-else, guard, validate-settings}
+use Rattle.projection.specs.MapEdge.{EDGE-EPSILON}
 use Rattle.lambert_azimuthal_equal_area.specs.declared.Aspect.{Aspect}
 use Rattle.lambert_azimuthal_equal_area.specs.declared.Aspect.the-variants.{Oblique, NorthPolar, SouthPolar}
 use Rattle.lambert_azimuthal_equal_area.specs.declared.LambertAzimuthalEqualArea.{LambertAzimuthalEqualArea}
@@ -29,8 +30,12 @@ POLAR-EPSILON = f64 0x3d719799812dea11
 abbrev pub RHO-EPSILON : Float
 RHO-EPSILON = f64 0x3e112e0be826d695
 
-pub constants : (POLAR-EPSILON ∷ RHO-EPSILON ∷ []) ≡ (ratio 1 (10 ^ 12) ∷ ratio 1 (10 ^ 9) ∷ [])
-unfolding ofBits round
+-- 02's 1 + 1e-12, summed once: beyond the map's edge what the arcsine takes is above it
+abbrev pub EDGE : Float
+EDGE = f64 0x3ff0000000001198
+
+pub constants : (POLAR-EPSILON ∷ RHO-EPSILON ∷ EDGE ∷ []) ≡ (ratio 1 (10 ^ 12) ∷ ratio 1 (10 ^ 9) ∷ one ⊕ EDGE-EPSILON ∷ [])
+unfolding ofBits round add
 constants = refl
 
 -- polar strictly within POLAR-EPSILON of a pole

@@ -70,6 +70,9 @@ impl LambertAzimuthalEqualArea {
     // What is strictly nearer to the centre than this, in metres, is at the centre.
     pub const RHO_EPSILON: f64 = 1e-9;
 
+    // Document 02's 1 + 1e-12: specs/LambertAzimuthalEqualArea.antt has the theorem. What the arcsine takes is above this beyond the map's edge.
+    pub const EDGE: f64 = f64::from_bits(0x3ff0_0000_0000_1198);
+
     // On the ellipsoid.
     pub fn new(
         ellipsoid: Ellipsoid,

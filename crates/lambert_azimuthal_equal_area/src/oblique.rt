@@ -3,15 +3,20 @@ ghost use mathlib.Core.Path.{_≡_};
 ghost use Rattle.lambert_azimuthal_equal_area.specs.Forward.{oblique-forward};
 ghost use Rattle.lambert_azimuthal_equal_area.specs.Inverse.{oblique-formula};
 use crate::LambertAzimuthalEqualArea;
+use crate::inverse::Click;
 use crate::inverse::angular_distance;
 use crate::inverse::bounded_arcsine;
 use crate::inverse::distance;
+use crate::inverse::half_sine;
+use crate::inverse::judge;
 use authalic::authalic_latitude;
 use authalic::geodetic_from_authalic;
 use fixed::atan2;
 use projection::Answer;
+use projection::Frame;
 use projection::ensure_finite_xy;
 use refusals::ANTIPODE;
+use refusals::OFF_THE_MAP;
 use root::root;
 use trigonometry::sin_cos;
 
@@ -40,26 +45,29 @@ impl LambertAzimuthalEqualArea {
         }
     }
 
-    pub(crate) fn oblique_formula(self, dx: f64, dy: f64) -> Answer
-        ensures { λ r. ⌜ r ≡ oblique-formula self dx dy ⌝ }
+    pub(crate) fn oblique_formula(self, frame: Frame, dx: f64, dy: f64) -> Answer
+        ensures { λ r. ⌜ r ≡ oblique-formula frame self dx dy ⌝ }
     {
         let d = self.d;
         let y_scaled = d * dy;
         let rho = distance(dx / d, y_scaled);
-        if rho < Self::RHO_EPSILON {
-            Answer::Pair(self.lon0, self.lat0)
-        } else {
-            let c = sin_cos(angular_distance(rho, self.rq));
-            let sin_c = c.sin;
-            let cos_c = c.cos;
-            let sin_beta0 = self.sin_beta0;
-            let cos_beta0 = self.cos_beta0;
-            let beta = bounded_arcsine(cos_c * sin_beta0 + y_scaled * sin_c * cos_beta0 / rho);
-            let d_lon = atan2(
-                dx * sin_c,
-                d * rho * cos_beta0 * cos_c - d * d * dy * sin_beta0 * sin_c,
-            );
-            Answer::Pair(self.lon0 + d_lon, geodetic_from_authalic(beta, self.e2))
+        let half = half_sine(rho, self.rq);
+        match judge(frame, rho, half) {
+            Click::AtCentre => Answer::Pair(self.lon0, self.lat0),
+            Click::InFrame => Answer::Refused(OFF_THE_MAP),
+            Click::OnMap => {
+                let c = sin_cos(angular_distance(half));
+                let sin_c = c.sin;
+                let cos_c = c.cos;
+                let sin_beta0 = self.sin_beta0;
+                let cos_beta0 = self.cos_beta0;
+                let beta = bounded_arcsine(cos_c * sin_beta0 + y_scaled * sin_c * cos_beta0 / rho);
+                let d_lon = atan2(
+                    dx * sin_c,
+                    d * rho * cos_beta0 * cos_c - d * d * dy * sin_beta0 * sin_c,
+                );
+                Answer::Pair(self.lon0 + d_lon, geodetic_from_authalic(beta, self.e2))
+            }
         }
     }
 }

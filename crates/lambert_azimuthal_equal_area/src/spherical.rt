@@ -3,13 +3,18 @@ ghost use mathlib.Core.Path.{_≡_};
 ghost use Rattle.lambert_azimuthal_equal_area.specs.Forward.{spherical-forward};
 ghost use Rattle.lambert_azimuthal_equal_area.specs.Inverse.{spherical-formula};
 use crate::LambertAzimuthalEqualArea;
+use crate::inverse::Click;
 use crate::inverse::angular_distance;
 use crate::inverse::bounded_arcsine;
 use crate::inverse::distance;
+use crate::inverse::half_sine;
+use crate::inverse::judge;
 use fixed::atan2;
 use projection::Answer;
+use projection::Frame;
 use projection::ensure_finite_xy;
 use refusals::ANTIPODE;
+use refusals::OFF_THE_MAP;
 use root::root;
 use trigonometry::sin_cos;
 
@@ -36,21 +41,24 @@ impl LambertAzimuthalEqualArea {
         }
     }
 
-    pub(crate) fn spherical_formula(self, dx: f64, dy: f64) -> Answer
-        ensures { λ r. ⌜ r ≡ spherical-formula self dx dy ⌝ }
+    pub(crate) fn spherical_formula(self, frame: Frame, dx: f64, dy: f64) -> Answer
+        ensures { λ r. ⌜ r ≡ spherical-formula frame self dx dy ⌝ }
     {
         let rho = distance(dx, dy);
-        if rho < Self::RHO_EPSILON {
-            Answer::Pair(self.lon0, self.lat0)
-        } else {
-            let c = sin_cos(angular_distance(rho, self.spherical_radius));
-            let sin_c = c.sin;
-            let cos_c = c.cos;
-            let sin_lat0 = self.sin_lat0;
-            let cos_lat0 = self.cos_lat0;
-            let lat = bounded_arcsine(cos_c * sin_lat0 + dy * sin_c * cos_lat0 / rho);
-            let d_lon = atan2(dx * sin_c, rho * cos_lat0 * cos_c - dy * sin_lat0 * sin_c);
-            Answer::Pair(self.lon0 + d_lon, lat)
+        let half = half_sine(rho, self.spherical_radius);
+        match judge(frame, rho, half) {
+            Click::AtCentre => Answer::Pair(self.lon0, self.lat0),
+            Click::InFrame => Answer::Refused(OFF_THE_MAP),
+            Click::OnMap => {
+                let c = sin_cos(angular_distance(half));
+                let sin_c = c.sin;
+                let cos_c = c.cos;
+                let sin_lat0 = self.sin_lat0;
+                let cos_lat0 = self.cos_lat0;
+                let lat = bounded_arcsine(cos_c * sin_lat0 + dy * sin_c * cos_lat0 / rho);
+                let d_lon = atan2(dx * sin_c, rho * cos_lat0 * cos_c - dy * sin_lat0 * sin_c);
+                Answer::Pair(self.lon0 + d_lon, lat)
+            }
         }
     }
 }

@@ -6,6 +6,7 @@ pub mod Normalising
 pub mod Normalised
 pub mod NormalisingError
 pub mod OnTheMap
+pub mod OffTheMap
 pub mod InArea
 pub mod SoundArea
 pub mod NanEdge

@@ -4,6 +4,7 @@ pub mod Checks
 pub mod Longitude
 pub mod Starts
 pub mod Ends
+pub mod MapEdge
 pub mod OnTheMap
 pub mod AreaOfUse
 pub mod InArea

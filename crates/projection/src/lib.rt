@@ -4,6 +4,7 @@ mod bound;
 mod checks;
 mod ends;
 mod longitude;
+mod map_edge;
 mod results;
 mod starts;
 
@@ -23,6 +24,7 @@ pub use ends::ensure_finite_lon_lat;
 pub use ends::ensure_finite_xy;
 pub use ends::finish;
 pub use longitude::normalize_longitude;
+pub use map_edge::beyond_edge;
 pub use results::first_result;
 pub use results::number;
 pub use results::second_result;
@@ -46,6 +48,12 @@ pub struct Area {
 pub enum AreaOfUse {
     Anywhere,
     Inside(Area),
+}
+
+// What an inverse does with a click in the map's frame: it holds it to the map's edge, or refuses it.
+pub enum Frame {
+    Held,
+    Refused,
 }
 
 // What the entrance of a forward gives: the longitude from the origin, or a refusal number.

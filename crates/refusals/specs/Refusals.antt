@@ -117,6 +117,10 @@ RING-RESULT = 28
 abbrev pub NEAREST-INPUT : ℕ
 NEAREST-INPUT = 29
 
+-- the easting and northing lie off the map, beyond its edge
+abbrev pub OFF-THE-MAP : ℕ
+OFF-THE-MAP = 30
+
 -- the columns have unequal lengths: nothing is read or written
 abbrev pub UNEQUAL-LENGTHS : ℕ
 UNEQUAL-LENGTHS = 255

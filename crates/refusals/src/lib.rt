@@ -87,5 +87,8 @@ pub const RING_RESULT: u8 = 28;
 // There are no schools or more than 256, the lists have unequal lengths, the list for the order is shorter, or a coordinate is not a finite number or above 1e8 in size.
 pub const NEAREST_INPUT: u8 = 29;
 
+// The easting and northing lie off the map, beyond its edge.
+pub const OFF_THE_MAP: u8 = 30;
+
 // The columns have unequal lengths: nothing is read or written.
 pub const UNEQUAL_LENGTHS: u8 = 255;

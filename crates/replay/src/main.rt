@@ -1,4 +1,4 @@
-// Replays the oracle's stored answers with our functions. Standard input, of at most a million bytes, has lines of the form
+// Replays the oracle's stored answers with our functions. Standard input, of at most 1,200,000 bytes, has lines of the form
 //
 //     QUESTION ANSWER  # why this line is here
 //
@@ -11,6 +11,7 @@ mod ellipsoids;
 mod functions;
 mod line;
 mod list;
+mod on_map;
 mod question;
 mod reply;
 mod rings;
@@ -32,10 +33,10 @@ use reply::is_said;
 use reply::write_reply;
 
 // One byte more than the input may have.
-const ROOM: usize = 1000001;
+const ROOM: usize = 1200001;
 
 fn input_buffer() -> [u8; ROOM]
-    ensures { λ r. ⌜ 1000001 ≡ length r ⌝ }
+    ensures { λ r. ⌜ 1200001 ≡ length r ⌝ }
 {
     [0; ROOM]
 }
@@ -67,7 +68,7 @@ fn report(name: &[u8], ours: u64, lines: u64) {
 // The count after one more line, which counts where `more` holds. No input has so many lines that it stops.
 fn counted(n: u64, more: bool) -> u64 {
     if more {
-        if n < 1000000 {
+        if n < 1200000 {
             return n + 1;
         }
     }
@@ -109,7 +110,7 @@ fn main() {
     let mut input = input_buffer();
     let n = io::read_full(STDIN_FILENO, &mut input);
     if n == ROOM {
-        io::write_all(STDOUT_FILENO, b"The input has more than a million bytes.\n");
+        io::write_all(STDOUT_FILENO, b"The input has more than 1,200,000 bytes.\n");
     }
     replay(&input[..n]);
 }

@@ -8,6 +8,8 @@
 // - `nearest,`, a home, the lengths of both lists of schools and of the list for the order, and the schools: answered by the number and
 //   that list after the call in one number;
 // - `albers_inverse,` and the nine numbers of an Albers, unchecked, an easting and a northing: answered as in a sheet;
+// - `on_map,` and a value line of the inverse, or `on_map_in_area,` with the four edges after it: answered as in a sheet, but by
+//   the second inverse, and by `missing` where the kind has none;
 // - a function and its arguments, answered by bits, a bool by 1 or 0: `root,4010000000000000 4000000000000000`;
 // - an ellipsoid's constructor and its arguments, or its name, answered as in a sheet by its number, a and f:
 //   `sphere,3ff0000000000000 0,3ff0000000000000,0000000000000000`.
@@ -18,6 +20,8 @@ use crate::functions::of_one;
 use crate::functions::of_three;
 use crate::functions::of_two;
 use crate::line::question;
+use crate::on_map::of_click;
+use crate::on_map::of_click_in_area;
 use crate::reply::Reply;
 use crate::reply::of_answer;
 use crate::rings::of_ring_line;
@@ -103,6 +107,10 @@ pub(crate) fn reply(question: &[u8]) -> Reply {
         of_schools(rest(question))
     } else if same(first, b"albers_inverse") {
         of_albers(rest(question))
+    } else if same(first, b"on_map") {
+        of_click(rest(question))
+    } else if same(first, b"on_map_in_area") {
+        of_click_in_area(rest(question))
     } else {
         of_call(question)
     }

@@ -13,13 +13,14 @@ use sheet::field;
 use sheet::read_hex;
 
 // A number as its bits, a row of a sheet (the number of a refusal or 0, and two results as bits), the same of a ring (its area, the
-// number of its points) with both buffers in one number, a number and a list in one number, or none where the question is not
-// understood.
+// number of its points) with both buffers in one number, a number and a list in one number, that what is asked for is missing, or
+// none where the question is not understood.
 pub(crate) enum Reply {
     Bits(u64),
     Row(u8, u64, u64),
     Ring(u8, u64, u64, u64),
     List(u8, u64),
+    Missing,
     None,
 }
 
@@ -95,6 +96,7 @@ pub(crate) fn is_said(text: &[u8], reply: Reply) -> bool {
         Reply::Row(n, p, q) => is_row(text, n, p, q),
         Reply::Ring(n, area, points, buffers) => is_ring(text, n, area, points, buffers),
         Reply::List(n, list) => is_list(text, n, list),
+        Reply::Missing => same(text, b"missing"),
         Reply::None => false,
     }
 }
@@ -123,6 +125,9 @@ pub(crate) fn write_reply(reply: Reply) {
             io::print_hex(STDOUT_FILENO, buffers, 16);
         }
         Reply::List(n, list) => write_list(n, list),
+        Reply::Missing => {
+            io::write_all(STDOUT_FILENO, b"missing");
+        }
         Reply::None => {
             io::write_all(STDOUT_FILENO, b"none, the question is not understood");
         }

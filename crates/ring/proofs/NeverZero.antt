@@ -11,6 +11,7 @@ use lib.Ieee.Scale.{finite}
 use Rattle.refusals.specs.Refusals.{RING-RESULT}
 use Rattle.projection.specs.declared.Answer.{Answer}
 use Rattle.projection.specs.declared.Answer.the-variants as answer
+use Rattle.projection.specs.declared.Frame.the-variants.{Held}
 use Rattle.projection.proofs.NeverZero.{NeverZero, guard-never-zero}
 use Rattle.letters.specs.declared.Way.the-variants.{Forward}
 use Rattle.kinds.specs.Kinds as kinds
@@ -73,8 +74,8 @@ judged-never-zero a b (points l) h = judged-if ((leb (length l) a && leb (length
 
 module _ (p : Projection) (h : NeverZero built.Refused (p .built)) where
   place-never-zero : (lon lat : Float) → NeverZero projected.Refused (place p lon lat)
-  unfolding place kinds.answer
-  place-never-zero lon lat = put-never-zero lon lat (kinds.forward p lon lat) (answer-never-zero Forward p lon lat h)
+  unfolding place kinds.answer-in
+  place-never-zero lon lat = put-never-zero lon lat (kinds.forward p lon lat) (answer-never-zero Held Forward p lon lat h)
 
   edge-never-zero : (left : ℕ) (a b : Point) → NeverZero refused (edge p left a b)
   unfolding edge midpoint

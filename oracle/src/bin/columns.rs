@@ -5,13 +5,15 @@
 //! `columns growth` times ours for 1,000 to 1,000,000 points, `columns single` ours by a column, by
 //! a call for each point, and by building and a call for each, `columns area` ours without an area of
 //! use, with one that holds all the places, and with one that holds none, `columns sphere` Albers on
-//! its ellipsoid and on a sphere: ours, and the same in Rust, which on a sphere is the oracle's, and
-//! `columns rounds` what 02's quotients cost the oracle's Albers inverse before its rounds and in each.
+//! its ellipsoid and on a sphere: ours, and the same in Rust, which on a sphere is the oracle's,
+//! `columns rounds` what 02's quotients cost the oracle's Albers inverse before its rounds and in each,
+//! and `columns on_map` the first inverse, ours and the source's, and our second, on the map and off it.
 
 use oracle::area::{AreaLine, BOUND, OUTSIDE_AREA, WIDEST};
 use oracle::expected;
-use oracle::line::{Columns, KINDS, Line, U, V, WAYS};
+use oracle::line::{A, Columns, KINDS, Line, U, V, WAYS};
 use oracle::lines::Lines;
+use oracle::on_map::{self, Click, OFF_THE_MAP};
 use oracle::ours;
 use oracle::rounds::{Given, Handed, Meant, Rule};
 use oracle::source::{fixed, platform};
@@ -35,7 +37,8 @@ fn main() -> ExitCode {
         Some("area") => area(),
         Some("sphere") => sphere(),
         Some("rounds") => rounds(),
-        Some(word) => panic!("neither growth nor single nor area nor sphere nor rounds: {word}"),
+        Some("on_map") => second(),
+        Some(word) => panic!("no such measurement: {word}"),
     }
 }
 
@@ -158,6 +161,31 @@ fn rounds() -> ExitCode {
     ExitCode::from(u8::from(differ > 0))
 }
 
+fn second() -> ExitCode {
+    println!("ns a point: the first inverse, ours and Rust; our second, on the map and off it");
+    let mut differ = 0;
+    for kind in on_map::KINDS {
+        let points = Points::new(b'I', kind, POINTS);
+        let off = points.off();
+        let [first, second] = [ours::column, by_second].map(|side| points.filled(side));
+        let pairs = first.answers().zip(second.answers());
+        let refused = off.filled(by_second).numbers;
+        let refused = refused.iter().filter(|&&n| n == OFF_THE_MAP).count();
+        differ += pairs.filter(|(a, b)| a != b).count() + POINTS - refused;
+        let sides: [Side; 3] = [ours::column, fixed::door::column, by_second];
+        let ([ours, rust, on], [off]) = (points.medians(sides), off.medians([by_second]));
+        print_row(b'I', kind, [ours, rust, on, off]);
+    }
+    if differ > 0 {
+        println!("{differ} answers are not those of a click");
+    }
+    ExitCode::from(u8::from(differ > 0))
+}
+
+fn by_second(line: &Line, u: &[f64], v: &[f64], filled: &mut Columns) {
+    ours::on_map_column(&Click::new(*line), u, v, filled).expect("a second inverse");
+}
+
 fn before_rounds(line: &Line, u: &[f64], v: &[f64], filled: &mut Columns) {
     by_rule(&BeforeRounds, line, u, v, filled);
 }
@@ -232,6 +260,14 @@ impl Points {
     fn of(lines: Vec<Line>) -> Points {
         let column = |field: usize| lines.iter().map(|line| line.fields[field]).collect();
         let (line, u, v) = (lines[0], column(U), column(V));
+        Points { line, u, v }
+    }
+
+    /// So far to the east that they are off the map.
+    fn off(&self) -> Points {
+        let far = 9.0 * self.line.fields[A];
+        let u = self.u.iter().map(|u| u + far).collect();
+        let (line, v) = (self.line, self.v.clone());
         Points { line, u, v }
     }
 

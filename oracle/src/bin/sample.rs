@@ -1,7 +1,7 @@
 //! Writes the answers that crates/replay replays, of 01's functions, of the source with these, and of
 //! 02: of functions, of the ellipsoid's numbers, constructors and names, of value lines of each kind,
 //! with Albers on a sphere and its rounds, of such lines with an area of use, of rings, of nearest
-//! schools, and of Albers inverses with numbers handed in.
+//! schools, of Albers inverses with numbers handed in, and of the second inverse.
 
 use oracle::area::{self, Rule as _};
 use oracle::area_sample::area_sample;
@@ -13,6 +13,8 @@ use oracle::line::{KINDS, Line, WAYS};
 use oracle::lines::{Lines, Sort};
 use oracle::nearest::{self, Rule as _};
 use oracle::nearest_sample::nearest_sample;
+use oracle::on_map::{self, Rule as _};
+use oracle::on_map_sample::on_map_sample;
 use oracle::patterns::{Patterns, SPECIALS, edge_arguments};
 use oracle::ring::{self, Rule as _};
 use oracle::ring_sample::ring_sample;
@@ -37,7 +39,8 @@ fn main() {
         .chain(with_area())
         .chain(rings())
         .chain(nearest_schools())
-        .chain(handed_in());
+        .chain(handed_in())
+        .chain(clicks());
     for line in stored {
         println!("{line}");
     }
@@ -122,6 +125,14 @@ fn handed_in() -> impl Iterator<Item = Stored> {
     round_sample().into_iter().map(|(question, why)| Stored {
         question: question.text(),
         answer: question.expected().text(),
+        why,
+    })
+}
+
+fn clicks() -> impl Iterator<Item = Stored> {
+    on_map_sample().into_iter().map(|(click, why)| Stored {
+        question: click.text(),
+        answer: on_map::text(on_map::Meant.answer(&click)),
         why,
     })
 }

@@ -5,13 +5,16 @@
 
 use lenthuc::{
     AlbersEqualArea, AmericanPolyconic, Answer, Area, CassiniSoldner, Ellipsoid, EqualEarth,
-    GuamProjection, LambertAzimuthalEqualArea, Outcome, Projection, Refusal, UnequalLengths,
-    normalize_longitude,
+    GuamProjection, InverseOnMap, LambertAzimuthalEqualArea, Outcome, Projection, Refusal,
+    UnequalLengths, normalize_longitude,
 };
 use std::f64::consts::FRAC_PI_2;
 
 pub const WAYS: [u8; 2] = *b"FI";
 pub const KINDS: [u8; 7] = *b"LSAECPG";
+
+/// The kinds that have a second inverse.
+pub const ON_MAP_KINDS: [u8; 3] = *b"LSE";
 
 /// Quiet and signalling NaN of both signs, with several payloads.
 pub const NANS: [u64; 8] = [
@@ -46,6 +49,16 @@ pub type Edges = [f64; 4];
 /// The largest latitude that is one.
 pub const BOUND: f64 = FRAC_PI_2 + 1e-12;
 
+/// A box of a map that may be refused, in the area of these edges if there are any.
+macro_rules! boxed {
+    ($map:expr, $edges:expr) => {
+        match $edges {
+            None => Box::new($map?),
+            Some(edges) => Box::new($map?.with_area(area(edges))?),
+        }
+    };
+}
+
 /// The projection of a kind's letter.
 pub fn build(kind: u8, settings: Settings) -> Result<Box<dyn Projection>, Refusal> {
     boxed(kind, settings, None)
@@ -57,33 +70,50 @@ pub fn build_in(
     kind: u8,
     settings: Settings,
 ) -> Result<Box<dyn Projection>, Refusal> {
-    boxed(kind, settings, Some(area(edges)))
+    boxed(kind, settings, Some(edges))
 }
 
-fn boxed(kind: u8, settings: Settings, area: Option<Area>) -> Result<Box<dyn Projection>, Refusal> {
-    macro_rules! boxed {
-        ($map:expr) => {
-            match area {
-                None => Box::new($map?),
-                Some(area) => Box::new($map?.with_area(area)?),
-            }
-        };
-    }
-    let [a, f, lon0, lat0, lat1, lat2, fe, fn_] = settings;
+/// The projection of a kind's letter that has a second inverse, with an area of use if one is given.
+pub fn build_on_map(
+    kind: u8,
+    settings: Settings,
+    edges: Option<Edges>,
+) -> Result<Box<dyn InverseOnMap>, Refusal> {
+    let [a, f, lon0, lat0, _, _, fe, fn_] = settings;
     let ellipsoid = Ellipsoid::from_a_f(a, f)?;
     let spherical = LambertAzimuthalEqualArea::new_spherical;
     Ok(match kind {
-        b'L' => boxed!(LambertAzimuthalEqualArea::new(
-            ellipsoid, lon0, lat0, fe, fn_
-        )),
-        b'S' => boxed!(spherical(ellipsoid, lon0, lat0, fe, fn_)),
-        b'A' => boxed!(AlbersEqualArea::new(
-            ellipsoid, lon0, lat0, lat1, lat2, fe, fn_
-        )),
-        b'E' => boxed!(EqualEarth::new(ellipsoid, lon0, fe, fn_)),
-        b'C' => boxed!(CassiniSoldner::new(ellipsoid, lon0, lat0, fe, fn_)),
-        b'P' => boxed!(AmericanPolyconic::new(ellipsoid, lon0, lat0, fe, fn_)),
-        b'G' => boxed!(GuamProjection::new(ellipsoid, lon0, lat0, fe, fn_)),
+        b'L' => boxed!(
+            LambertAzimuthalEqualArea::new(ellipsoid, lon0, lat0, fe, fn_),
+            edges
+        ),
+        b'S' => boxed!(spherical(ellipsoid, lon0, lat0, fe, fn_), edges),
+        b'E' => boxed!(EqualEarth::new(ellipsoid, lon0, fe, fn_), edges),
+        _ => panic!("the kind {kind} has no second inverse"),
+    })
+}
+
+fn boxed(
+    kind: u8,
+    settings: Settings,
+    edges: Option<Edges>,
+) -> Result<Box<dyn Projection>, Refusal> {
+    if ON_MAP_KINDS.contains(&kind) {
+        return Ok(Box::new(build_on_map(kind, settings, edges)?));
+    }
+    let [a, f, lon0, lat0, lat1, lat2, fe, fn_] = settings;
+    let ellipsoid = Ellipsoid::from_a_f(a, f)?;
+    Ok(match kind {
+        b'A' => boxed!(
+            AlbersEqualArea::new(ellipsoid, lon0, lat0, lat1, lat2, fe, fn_),
+            edges
+        ),
+        b'C' => boxed!(CassiniSoldner::new(ellipsoid, lon0, lat0, fe, fn_), edges),
+        b'P' => boxed!(
+            AmericanPolyconic::new(ellipsoid, lon0, lat0, fe, fn_),
+            edges
+        ),
+        b'G' => boxed!(GuamProjection::new(ellipsoid, lon0, lat0, fe, fn_), edges),
         _ => panic!("no kind has the letter {kind}"),
     })
 }

@@ -9,4 +9,4 @@ filled : (n a : ℕ) → n ≡ length (replicate n a)
 filled n a = sym (length-replicate n a)
 
 pub input-buffer-spec : {M : Type 1} → statement M
-input-buffer-spec = tie.close (tie.spec (λ c. filled 1000001 0))
+input-buffer-spec = tie.close (tie.spec (λ c. filled 1200001 0))

@@ -4,35 +4,35 @@ use mathlib.Core.Path.{sym, _∙_}
 use native.Mathlib.Omega.{arith}
 use borrow.Author.Needs.{needs}
 use lib.ListN.{length}
-use Rattle.kinds.specs.Kinds.{answer}
+use Rattle.kinds.specs.Kinds.{answer-in}
 use Rattle.capi.proofs.Fills.{Filling, starts, goes-on, ends}
 use Rattle.capi.proofs.Maps.{Mapping, maps-on, maps-all}
 use Rattle.capi.proofs.columns.fill.Statement.{statement}
 use Rattle.capi.proofs.columns.fill.Tie as tie
 
 abbrev Inv-loop : tie.InvT-loop
-Inv-loop way new u v p₀ q₀ numbers₀ i₀ p q numbers i = Filling (answer way new) u v p q numbers i × Mapping way new u v i
+Inv-loop frame way new u v p₀ q₀ numbers₀ i₀ p q numbers i = Filling (answer-in frame way new) u v p q numbers i × Mapping frame way new u v i
 
 abbrev μ-loop : tie.MeasureT-loop
-μ-loop way new u v p₀ q₀ numbers₀ i₀ p q numbers i = length u - i
+μ-loop frame way new u v p₀ q₀ numbers₀ i₀ p q numbers i = length u - i
 
 loop-holds : tie.Need-loop-holds Inv-loop μ-loop
 loop-holds c = let h = c .before .before .before .before .before .pre in (starts _ _ _ _ _ _ (h .0) (h .1) (h .2) (h .3), λ m. m)
 
-mul-answer : tie.Need-mul-answer Inv-loop μ-loop
-mul-answer c = search needs
+mul-answer-in : tie.Need-mul-answer-in Inv-loop μ-loop
+mul-answer-in c = search needs
 
-shared-slice-read-answer : tie.Need-shared-slice-read-answer Inv-loop μ-loop
-shared-slice-read-answer c = omega arith
+shared-slice-read-answer-in : tie.Need-shared-slice-read-answer-in Inv-loop μ-loop
+shared-slice-read-answer-in c = omega arith
 
-mul-answer-2 : tie.Need-mul-answer-2 Inv-loop μ-loop
-mul-answer-2 c = search needs
+mul-answer-in-2 : tie.Need-mul-answer-in-2 Inv-loop μ-loop
+mul-answer-in-2 c = search needs
 
-shared-slice-read-answer-2 : tie.Need-shared-slice-read-answer-2 Inv-loop μ-loop
-shared-slice-read-answer-2 c = omega (arith, c .before .before .before .loop .inv .0 .v-long)
+shared-slice-read-answer-in-2 : tie.Need-shared-slice-read-answer-in-2 Inv-loop μ-loop
+shared-slice-read-answer-in-2 c = omega (arith, c .before .before .before .loop .inv .0 .v-long)
 
-answer-requires : tie.Need-answer-requires Inv-loop μ-loop
-answer-requires c κs = tt
+answer-in-requires : tie.Need-answer-in-requires Inv-loop μ-loop
+answer-in-requires c κs = tt
 
 first-result-requires : tie.Need-first-result-requires Inv-loop μ-loop
 first-result-requires c κs = tt
@@ -68,8 +68,8 @@ loop-again : tie.Need-loop-again Inv-loop μ-loop
 loop-again c =
     let at = c .before .before .before .before .before .before .before .loop in
     let answer = c .before .before .before in (
-      goes-on _ _ _ _ _ _ _ (at .inv .0) _ _ _ _ _ (omega arith) (answer .answer .ensures .0) (c .before .before .first-result .ensures) (c .before .second-result .ensures) (c .number .ensures),
-      maps-on _ _ _ _ _ (at .inv .1) _ (omega arith) (omega (arith, at .inv .0 .v-long)) _ (answer .answer .ensures .0) (answer .answer .ensures .1),
+      goes-on _ _ _ _ _ _ _ (at .inv .0) _ _ _ _ _ (omega arith) (answer .answer-in .ensures .0) (c .before .before .first-result .ensures) (c .before .second-result .ensures) (c .number .ensures),
+      maps-on _ _ _ _ _ _ (at .inv .1) _ (omega arith) (omega (arith, at .inv .0 .v-long)) _ (answer .answer-in .ensures .0) (answer .answer-in .ensures .1),
     )
 
 same-length : tie.Need-same-length Inv-loop μ-loop
@@ -84,9 +84,9 @@ same-length-3 c = c .before .loop .inv .0 .n-long ∙ sym (c .before .before .be
 returns : tie.Need-returns Inv-loop μ-loop
 returns c =
     let held = ends _ _ _ _ _ _ _ (c .before .loop .inv .0) (c .loop-test .left) in
-    (held .0, held .1, held .2, maps-all _ _ _ _ _ (c .before .loop .inv .1) (c .loop-test .left))
+    (held .0, held .1, held .2, maps-all _ _ _ _ _ _ (c .before .loop .inv .1) (c .loop-test .left))
 
 pub fill-spec : {M : Type 1} → statement M
 fill-spec =
     tie.close
-    (tie.spec Inv-loop μ-loop loop-holds mul-answer shared-slice-read-answer mul-answer-2 shared-slice-read-answer-2 answer-requires first-result-requires mul-p slice-write-p second-result-requires mul-q slice-write-q number-requires slice-write-numbers add-i loop-less loop-again same-length same-length-2 same-length-3 returns)
+    (tie.spec Inv-loop μ-loop loop-holds mul-answer-in shared-slice-read-answer-in mul-answer-in-2 shared-slice-read-answer-in-2 answer-in-requires first-result-requires mul-p slice-write-p second-result-requires mul-q slice-write-q number-requires slice-write-numbers add-i loop-less loop-again same-length same-length-2 same-length-3 returns)

@@ -1,15 +1,6 @@
--- The kind's own answer, which is on the map, where the area of use holds it.
-use Rattle.projection.proofs.InArea.{inside-on-the-map}
-use Rattle.kinds.specs.Kinds.{formula, inverse}
+-- What it calls says it.
 use Rattle.kinds.proofs.Projection.inverse.Statement.{statement}
 use Rattle.kinds.proofs.Projection.inverse.Tie as tie
 
-returns : tie.Need-returns
-unfolding inverse formula
-returns c =
-    let by-kind = c .before .inverse-of .ensures in
-    let inside = c .ensure-inside .ensures in
-    rw (← by-kind .0) (inside .0, rw (inside .0) (inside-on-the-map _ _ _ (by-kind .1)), inside .1)
-
 pub inverse-spec : {M : Type 1} → statement M
-inverse-spec = tie.close (tie.spec (λ c κs. tt) (λ c κs. tt) returns)
+inverse-spec = tie.close (tie.spec (λ c κs. tt) (λ c. c .inverse-in .ensures))

@@ -1,11 +1,6 @@
--- By the way; an inverse's answer is on the map and inside the area.
-use Rattle.kinds.specs.Kinds.{answer}
+-- What it calls says it.
 use Rattle.kinds.proofs.points.answer.Statement.{statement}
 use Rattle.kinds.proofs.points.answer.Tie as tie
 
 pub answer-spec : {M : Type 1} → statement M
-unfolding answer
-answer-spec =
-    tie.close
-    (tie.spec (λ c. c .match .keys1) (λ c κs. tt) (λ c. c .match .keys2) (λ c κs. tt)
-    (λ c. rw (c .before .enum-told .given .1) (c .forward .ensures, tt)) (λ c. let held = c .inverse .ensures in rw (c .before .enum-told2 .given .1) (held .0, (held .1, held .2))))
+answer-spec = tie.close (tie.spec (λ c κs. tt) (λ c. c .answer-in .ensures))
