@@ -8,7 +8,7 @@ use lib.IntN.{ℤ, pos}
 use lib.Dec.{lit<}
 use lib.Ieee.{Float, nan, inf, fin, neg, up, down, lt, eq, ofBits, round, mul}
 use lib.Ieee.Fits.{down-pos}
-use Rattle.float.specs.Operators.{_⊗_, _⊘_, _≈_}
+use Rattle.float.specs.Operators.{_⊕_, _⊗_, _⊘_, _≈_}
 use Rattle.float.specs.Constants.{+0, half, one, two, FRAC-PI-2}
 use Rattle.float.specs.Sign.{abs, negative}
 use Rattle.float.specs.Limits.{clamp}
@@ -18,8 +18,12 @@ use Rattle.fixed.specs.Arctangent.{arcsine}
 use Rattle.ellipsoid.specs.Ellipsoid as ellipsoids
 use Rattle.ellipsoid.specs.declared.Ellipsoid.{Ellipsoid}
 use Rattle.authalic.specs.Authalic.{spherical, authalic-q, geodetic-from-authalic}
+use Rattle.projection.specs.MapEdge.{beyond-edge}
+use Rattle.projection.specs.declared.Answer.the-variants.{Pair}
+use Rattle.projection.specs.declared.Frame.the-variants.{Held}
+use Rattle.projection.specs.declared.Solution.the-variants.{Found}
 use Rattle.projection.proofs.AsInSource.{no-origin-as-in-source}
-use Rattle.equal_earth.specs.EqualEarth.{M, polar-q, derived, new, latitude}
+use Rattle.equal_earth.specs.EqualEarth.{M, MAX-Y, polar-q, derived, new, psi-of-northing, longitude-from-origin, latitude, place, scaled-place}
 use Rattle.equal_earth.specs.AsInSource.{source-derived, source-new, source-latitude}
 use Rattle.equal_earth.specs.declared.EqualEarth.{EqualEarth}
 use Rattle.equal_earth.specs.declared.BuiltEqualEarth.the-variants.{Built, Refused}
@@ -84,3 +88,13 @@ sphere-leaves beta e2 = go (e2 ≈ +0) refl
 pub latitude-as-in-source : (p : EqualEarth) (psi : Float) → source-latitude p psi ≡ latitude p psi
 unfolding latitude
 latitude-as-in-source p psi = sphere-leaves (arcsine (clamp (sine psi ⊘ M) (neg one) one)) (p .e2)
+
+-- ---- the first inverse asks nothing about the map's edge
+module _ (p : EqualEarth) (xs : Float) where
+  pub held-as-in-source : (ys : Float) → place Held p xs (psi-of-northing (clamp ys (neg MAX-Y) MAX-Y)) ≡ scaled-place Held p xs ys
+  unfolding scaled-place beyond-edge
+  held-as-in-source ys = refl
+
+  pub found-as-in-source : (psi : Float) → Pair (p .lon0 ⊕ longitude-from-origin xs psi) (latitude p psi) ≡ place Held p xs (Found psi)
+  unfolding place beyond-edge
+  found-as-in-source psi = refl

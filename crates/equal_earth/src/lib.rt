@@ -194,6 +194,7 @@ impl EqualEarth {
     {
         match solution {
             Solution::Found(psi) => {
+                let lon0 = self.lon0;
                 let psi2 = psi * psi;
                 let psi6 = psi2 * psi2 * psi2;
                 let sc = sin_cos(psi);
@@ -202,7 +203,7 @@ impl EqualEarth {
                     Answer::Refused(OFF_THE_MAP)
                 } else {
                     let beta = asin(clamp(sc.sin / M, -1.0, 1.0));
-                    Answer::Pair(self.lon0 + d_lon, geodetic_from_authalic(beta, self.e2))
+                    Answer::Pair(lon0 + d_lon, geodetic_from_authalic(beta, self.e2))
                 }
             }
             Solution::Refused(n) => Answer::Refused(n),

@@ -40,6 +40,17 @@ module _ (p : Projection) (x y : Float) where
   pub missing-on-the-map : SecondOnTheMap p x y Missing
   missing-on-the-map = record { given = λ b e. let c : _≡_ {A = ℕ} 0 1 = cc in absurd (omega arith) }
 
+-- ---- what the code gives, by whether the kind has a second inverse
+
+module _ (p : Projection) (x y : Float) {b : Bool} (e : b ≡ has-second-inverse (p .built)) where
+  pub gives-second : {a : Answer} → b ≡ true → a ≡ inverse-in frame.Refused p x y → Gives a ≡ inverse-on-map p x y
+  unfolding inverse-on-map
+  gives-second t f = rw (← e, t) (ap Gives f)
+
+  pub has-none : b ≡ false → Missing ≡ inverse-on-map p x y
+  unfolding inverse-on-map
+  has-none t = rw (← e, t)
+
 -- ---- 30, or what the first gives
 
 by-kind-is : (b : Built) (en : List Float) (x y : Float) → inverse-of frame.Refused b en x y ≡ off-if (off-map b x y) (inverse-of frame.Held b en x y)

@@ -14,6 +14,7 @@ use Rattle.refusals.specs.Refusals.{POLAR-Q, ORIGIN-NEAR-POLE, ORIGIN-SCALE}
 use Rattle.authalic.specs.Authalic.{geodetic-from-authalic}
 use Rattle.projection.specs.Checks.{guard, or-else}
 use Rattle.projection.specs.MapEdge.{beyond-edge}
+use Rattle.projection.specs.declared.Answer.{Answer}
 use Rattle.projection.specs.declared.Answer.the-variants.{Pair}
 use Rattle.projection.specs.declared.Frame.the-variants.{Held}
 use Rattle.projection.proofs.Refusal.{guard-refused, guard-passed, guard-or-else}
@@ -72,15 +73,26 @@ built-as-in-source ellipsoid lon0 lat0 false-easting false-northing spherical =
     rw (checked-as-in-source (derived ellipsoid lon0 lat0 false-easting false-northing spherical))
     (origin-as-in-source lon0 lat0 false-easting false-northing Refused (checked (derived ellipsoid lon0 lat0 false-easting false-northing spherical)))
 
--- ---- the first inverse about a pole
+-- ---- the first inverse
+
+-- it asks the source's centre rule and nothing else
+pub held-as-in-source : (rho quotient : Float) (centre there : Answer) → cond (rho ≺ RHO-EPSILON) centre there ≡ judged (judge Held rho quotient) centre there
+unfolding judge judged beyond-edge
+held-as-in-source rho quotient centre there = go (rho ≺ RHO-EPSILON)
+  where
+    go : (b : Bool) → cond b centre there ≡ judged (cond b AtCentre OnMap) centre there
+    go true = refl
+    go false = refl
+
+-- about a pole
 pub polar-place-as-in-source : (p : LambertAzimuthalEqualArea) (rho q-over-q-p d-lon : Float)
     → source-polar-place p rho q-over-q-p d-lon ≡ polar-place Held p rho q-over-q-p d-lon
-unfolding polar-place judge judged beyond-edge
-polar-place-as-in-source p rho q-over-q-p d-lon = go (rho ≺ RHO-EPSILON)
+unfolding polar-place
+polar-place-as-in-source p rho q-over-q-p d-lon = go (rho ≺ RHO-EPSILON) ∙ held-as-in-source rho _ _ _
   where
     go : (b : Bool)
         → Pair (cond b (p .lon0) (p .lon0 ⊕ d-lon)) (geodetic-from-authalic (cond b (p .lat0) (bounded-arcsine q-over-q-p)) (p .e2))
-        ≡ judged (cond b AtCentre OnMap) (Pair (p .lon0) (geodetic-from-authalic (p .lat0) (p .e2)))
+        ≡ cond b (Pair (p .lon0) (geodetic-from-authalic (p .lat0) (p .e2)))
         (Pair (p .lon0 ⊕ d-lon) (geodetic-from-authalic (bounded-arcsine q-over-q-p) (p .e2)))
     go true = refl
     go false = refl

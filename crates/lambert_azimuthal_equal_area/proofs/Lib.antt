@@ -1,3 +1,4 @@
 pub mod AsInSource
+pub mod Clicks
 pub mod OffTheMap
 pub mod NeverZero

@@ -1,42 +1,35 @@
 -- Arm by arm, and the test is the definition's.
 use Rattle.equal_earth.specs.EqualEarth.{place, longitude-from-origin, latitude}
+use Rattle.equal_earth.proofs.Clicks.{longitude-off, longitude-on}
 use Rattle.equal_earth.proofs.EqualEarth.place.Statement.{statement}
 use Rattle.equal_earth.proofs.EqualEarth.place.Tie as tie
 
 returns : tie.Need-returns
-unfolding place longitude-from-origin
+unfolding longitude-from-origin
 returns c =
     let edge = c .before in
     let slope = edge .before .before .before in
-    let psi = slope .before .sin-cos .ensures in
-    rw (
-      slope .before .before .before .solution .given .1,
-      ← (psi .1),
-      ← (slope .y-derivative .ensures),
-      ← (edge .before .abs .ensures),
-      ← (edge .beyond-edge .ensures),
-      c .if1 .taken,
-    )
+    rw (slope .before .before .before .solution .given .1)
+    (longitude-off _ _ _ _ (rw (← (slope .before .sin-cos .ensures .1), ← (slope .y-derivative .ensures)) (edge .before .abs .ensures)) (edge .beyond-edge .ensures) (c .if1 .taken))
 
 returns-2 : tie.Need-returns-2
-unfolding place longitude-from-origin latitude
+unfolding longitude-from-origin latitude
 returns-2 c =
-    let beta = c .before .before in
-    let clamped = beta .before in
+    let clamped = c .before .before in
     let inside = clamped .before .before in
     let edge = inside .before in
     let slope = edge .before .before .before in
     let psi = slope .before .sin-cos .ensures in
     rw (
       slope .before .before .before .solution .given .1,
-      ← (psi .0),
-      ← (psi .1),
-      ← (slope .y-derivative .ensures),
-      ← (edge .before .abs .ensures),
-      ← (edge .beyond-edge .ensures),
-      inside .if1 .left,
+      c .geodetic-from-authalic .ensures,
+      c .before .asin .ensures,
+      clamped .clamp .ensures,
+      psi .0,
+      psi .1,
+      slope .y-derivative .ensures,
     )
-    (rw (← (clamped .clamp .ensures), ← (beta .asin .ensures), ← (c .geodetic-from-authalic .ensures)))
+    (longitude-on _ _ _ _ (rw (← (psi .1), ← (slope .y-derivative .ensures)) (edge .before .abs .ensures)) (edge .beyond-edge .ensures) (inside .if1 .left))
 
 pub place-spec : {M : Type 1} → statement M
 unfolding place
