@@ -11,7 +11,7 @@
 
 use oracle::area::{AreaLine, BOUND, OUTSIDE_AREA, WIDEST};
 use oracle::expected;
-use oracle::line::{A, Columns, KINDS, Line, U, V, WAYS};
+use oracle::line::{A, Answer, Columns, KINDS, Line, U, V, WAYS};
 use oracle::lines::Lines;
 use oracle::on_map::{self, Click, OFF_THE_MAP};
 use oracle::ours;
@@ -171,7 +171,8 @@ fn second() -> ExitCode {
         let pairs = first.answers().zip(second.answers());
         let refused = off.filled(by_second).numbers;
         let refused = refused.iter().filter(|&&n| n == OFF_THE_MAP).count();
-        differ += pairs.filter(|(a, b)| a != b).count() + POINTS - refused;
+        let other = |(a, b): &(Answer, Answer)| a != b && b.number != OFF_THE_MAP;
+        differ += pairs.filter(other).count() + POINTS - refused;
         let sides: [Side; 3] = [ours::column, fixed::door::column, by_second];
         let ([ours, rust, on], [off]) = (points.medians(sides), off.medians([by_second]));
         print_row(b'I', kind, [ours, rust, on, off]);
