@@ -161,6 +161,6 @@ formula frame p x y =
     let scale = p .a ⊗ p .rqda in
     guard (validate-projected x y) Refused (scaled-place frame p ((x ⊖ p .«false_easting») ⊘ scale) ((y ⊖ p .«false_northing») ⊘ scale))
 
--- the first inverse, which holds a click in the frame to the map's edge, and the second, which refuses it
+-- the first inverse, which answers a click in the frame, by the map's edge or its other side, and the second, which refuses it
 unfoldable pub inverse : Frame → EqualEarth → Float → Float → Answer
 inverse frame p x y = finish (formula frame p x y)

@@ -138,7 +138,7 @@ forward p lon lat =
     let by-kind = forward-of (p .built) (p .en) lon lat in
     cond (is-refused (p .built)) by-kind (guard (or-else (validate-lon-lat lon lat) (validate-place (p .area) lon lat)) answered.Refused by-kind)
 
--- The place before its longitude is normalised, with 01's "formula's longitude". Lambert and Equal Earth hold a click in the map's frame to its edge, or refuse it;
+-- The place before its longitude is normalised, with 01's "formula's longitude". Lambert and Equal Earth answer a click in the map's frame, or refuse it;
 -- the others know no frame.
 unfoldable pub formula-of : Frame → Built → List Float → Float → Float → Answer
 formula-of frame (Lambert p) en x y = laea-inverse.formula frame p x y
@@ -163,7 +163,7 @@ unfoldable pub inverse-in : Frame → Projection → Float → Float → Answer
 unfolding inverse-of
 inverse-in frame p x y = ensure-inside (p .area) (inverse-of frame (p .built) (p .en) x y)
 
--- the first inverse, which is 01's: a click in the frame is held to the map's edge
+-- the first inverse, which is 01's: a click in the frame is answered
 abbrev pub formula : Projection → Float → Float → Answer
 formula = formula-in frame.Held
 

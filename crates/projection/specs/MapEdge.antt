@@ -1,4 +1,5 @@
--- Document 02's Q-6: the map has a frame, and a click in it is no place. The first inverse holds it to the map's edge, as document 01 says; the second refuses it.
+-- Document 02's Q-6: the map has a frame, and a click in it is no place. The first inverse answers it, as document 01 says: held to the map's edge, or of Equal
+-- Earth's easting on the other side. The second refuses it.
 use mathlib.Core.Path.{_≡_, refl}
 use mathlib.Core.Bool.{Bool, false}
 use Prim.Native.Nat.{_^_}

@@ -50,7 +50,7 @@ pub enum AreaOfUse {
     Inside(Area),
 }
 
-// What an inverse does with a click in the map's frame: it holds it to the map's edge, or refuses it.
+// What an inverse does with a click in the map's frame: it answers it, held to the map's edge or turned to the other side, or refuses it.
 pub enum Frame {
     Held,
     Refused,
