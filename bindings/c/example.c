@@ -2,7 +2,7 @@
  * IOGP 7-2's Cassini-Soldner example, Trinidad 1903 / Trinidad Grid, in Clarke's links: a projection that is built once, a
  * point forward and back, and a small column with a refused point in it; then projections that are refused, an atlas on a
  * sphere, an area of use across the 180 degree line, clicks on a map and in its frame, the area of a catchment, the schools
- * nearest to a home, and a sheet.
+ * nearest to a home, what the way to one costs, and a sheet.
  * Checks its own answers: the exit status is 0 if all are right. It is C89, and C++ too.
  */
 #include "lenthuc.h"
@@ -14,6 +14,7 @@
 #define CLICKS 3
 #define CORNERS 5
 #define SCHOOLS 4
+#define CHILDREN 7
 
 static const double pi = 3.14159265358979323846;
 
@@ -423,6 +424,52 @@ static void nearest_schools(void)
     check(lenthuc_nearest(200.0, 100.0, NULL, 0, NULL, 0, NULL, 0) == LENTHUC_NEAREST_INPUT, "no schools");
 }
 
+/* An amount in the smallest coin, of which a hundred are a whole one. */
+static void print_coins(uint64_t coins)
+{
+    printf(" %lu.%02lu", (unsigned long)(coins / 100), (unsigned long)(coins % 100));
+}
+
+/*
+ * Seven children at a stop, and a school 5,200 metres from it: six kilometres are started, at 0.40 each. 2.40 is no multiple of
+ * seven, so two children pay 0.35 and five 0.34. Then a school that is too far, and no children: no share stays from before.
+ */
+static void a_travel_charge(void)
+{
+    const double stop[2] = {1200.0, -300.0}, school[2] = {6000.0, 1700.0};
+    uint64_t shares[LENTHUC_CHARGE_CHILDREN], charge = 9, sum = 0;
+    uint8_t number;
+    size_t i;
+    for (i = 0; i < LENTHUC_CHARGE_CHILDREN; i++) {
+        shares[i] = 9;
+    }
+    number = lenthuc_travel_charge(school[0] - stop[0], school[1] - stop[1], 40, CHILDREN, &charge, shares);
+    printf("the charge, and each child's share:");
+    print_coins(charge);
+    printf(";");
+    for (i = 0; i < CHILDREN; i++) {
+        print_coins(shares[i]);
+    }
+    printf("\n");
+    check(number == LENTHUC_ANSWERED && charge == 240, "the charge");
+    for (i = 0; i < LENTHUC_CHARGE_CHILDREN; i++) {
+        check(shares[i] == (i < 2 ? 35u : i < CHILDREN ? 34u : 0u), "a share");
+        sum += shares[i];
+    }
+    check(sum == charge, "the shares' sum");
+    check(lenthuc_travel_charge(1000.0, 0.0, 40, 1, &charge, shares) == LENTHUC_ANSWERED && charge == 40, "one kilometre");
+    check(lenthuc_travel_charge(0.0, 0.0, 40, 1, &charge, shares) == LENTHUC_ANSWERED && charge == 0, "no way");
+
+    check(lenthuc_travel_charge(1e6, 0.0, 40, CHILDREN, &charge, shares) == LENTHUC_ANSWERED && charge == 40000, "1,000 km");
+    number = lenthuc_travel_charge(1e6, 1.0, 40, CHILDREN, &charge, shares);
+    printf("too far a school: %s\n", lenthuc_words(number));
+    check(number == LENTHUC_CHARGE_INPUT && charge == 0, "too far a school");
+    for (i = 0; i < LENTHUC_CHARGE_CHILDREN; i++) {
+        check(shares[i] == 0, "a share of no charge");
+    }
+    check(lenthuc_travel_charge(1000.0, 0.0, 40, 0, &charge, shares) == LENTHUC_CHARGE_INPUT, "no children");
+}
+
 /* Every number that a call may return has words of its own, and no other number has any. */
 static void words(void)
 {
@@ -430,7 +477,7 @@ static void words(void)
     for (i = 0; i < 256; i++) {
         const char *said = lenthuc_words((uint8_t)i);
         count += said != NULL;
-        check((said != NULL) == (i == 0 || (2 <= i && i <= 30) || i == 255), "a number's words");
+        check((said != NULL) == (i == 0 || (2 <= i && i <= 31) || i == 255), "a number's words");
         for (j = 0; j < i; j++) {
             const char *other = lenthuc_words((uint8_t)j);
             check(said == NULL || other == NULL || strcmp(said, other) != 0, "words that come twice");
@@ -478,6 +525,7 @@ int main(void)
     a_catchment();
     refused_rings();
     nearest_schools();
+    a_travel_charge();
     words();
     a_sheet();
     if (!wrong) {

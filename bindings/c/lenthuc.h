@@ -23,7 +23,7 @@
  * What holds of every call:
  *
  * - Angles are radians. Lengths have the unit of the semi-major axis a, and a ring's area has its square. The coordinates of
- *   lenthuc_nearest may have any unit, the same for all.
+ *   lenthuc_nearest may have any unit, the same for all. The dx and dy of lenthuc_travel_charge are metres.
  * - The number that a call returns is 0 where it answers. Otherwise it says why not: enum lenthuc_number, lenthuc_words.
  *   lenthuc_inverse_on_map and its column put it into *number, and return whether they have one.
  *   A projection's refusal comes before its points'. Else, where several apply, the first in the order of that list is
@@ -37,15 +37,15 @@
  *
  * What a caller owes:
  *
- * - A pointer is valid for as many elements as the length after it says (1 where there is none), and aligned for its type.
- *   Of length 0 it is not used, and may be NULL. A length counts elements, not bytes.
+ * - A pointer is valid for as many elements as the length after it says (1 where there is none, and LENTHUC_CHARGE_CHILDREN of
+ *   shares), and aligned for its type. Of length 0 it is not used, and may be NULL. A length counts elements, not bytes.
  * - What is written overlaps nothing else that the same call is lent: neither an input nor another result. So a column is not
  *   projected in place.
  * - The floating-point environment is the default one: round to nearest, subnormal numbers kept, no traps. A program that gcc
  *   or clang links with -Ofast or -ffast-math does not keep subnormal numbers, and some answers are then others.
  *
- * 'Proved' below is by Rattle, for every input: the definitions are those of crates/NAME/specs, where NAME is capi, ellipsoid,
- * kinds, nearest, packing, projection, ring or sheet.
+ * 'Proved' below is by Rattle, for every input: the definitions are those of crates/NAME/specs, where NAME is capi, charge,
+ * ellipsoid, kinds, nearest, packing, projection, ring or sheet.
  */
 #ifndef LENTHUC_H
 #define LENTHUC_H
@@ -72,8 +72,8 @@
 extern "C" {
 #endif
 
-/* The version of this header, 0.7.0. The archive tells its own by lenthuc_version: where they differ, do not use it. */
-#define LENTHUC_VERSION 700
+/* The version of this header, 0.8.0. The archive tells its own by lenthuc_version: where they differ, do not use it. */
+#define LENTHUC_VERSION 800
 
 /* The version of the archive, as LENTHUC_VERSION. */
 uint32_t lenthuc_version(void);
@@ -121,6 +121,7 @@ enum lenthuc_number {
     LENTHUC_RING_RESULT = 28,
     LENTHUC_NEAREST_INPUT = 29,
     LENTHUC_OFF_THE_MAP = 30,
+    LENTHUC_CHARGE_INPUT = 31,
     LENTHUC_UNEQUAL_LENGTHS = 255
 };
 
@@ -188,6 +189,8 @@ LENTHUC_INLINE const char *lenthuc_words(uint8_t number)
         return "there are no schools or more than 256, the lists have unequal lengths, the list for the order is shorter, or a coordinate is not a finite number or above 1e8 in size";
     case LENTHUC_OFF_THE_MAP:
         return "the easting and northing lie off the map, beyond its edge";
+    case LENTHUC_CHARGE_INPUT:
+        return "the rate is above 1,000,000, there are no children or more than 60, or the distance is not a finite number or above 1,000,000 m";
     case LENTHUC_UNEQUAL_LENGTHS:
         return "the columns have unequal lengths: nothing is read or written";
     default:
@@ -413,6 +416,38 @@ uint8_t lenthuc_ring_area(const struct lenthuc_projection *projection, const dou
 uint8_t lenthuc_nearest(double easting, double northing, const double *eastings, size_t eastings_length,
                         const double *northings, size_t northings_length, uint16_t *LENTHUC_RESTRICT order,
                         size_t order_length);
+
+/* The most children that lenthuc_travel_charge takes, and how many places its shares have. */
+#define LENTHUC_CHARGE_CHILDREN 60
+
+/*
+ * The charge for the way from a stop to a school, per started kilometre, and its shares among the children at the stop. dx and
+ * dy are the school's easting and northing less the stop's, in metres. rate is the price of a kilometre in the smallest coin,
+ * and children is how many there are; shares has LENTHUC_CHARGE_CHILDREN places whatever that is. Returns 0, and puts the
+ * charge, in the smallest coin, into *charge, and the children's shares into the first places of shares; the places past the
+ * last child take 0. Or returns 31, and puts 0 into *charge and into every place of shares.
+ *
+ * - On a map in metres, of the first school that lenthuc_nearest lists for the stop: dx = eastings[order[0]] - easting, and
+ *   dy = northings[order[0]] - northing.
+ * - The distance is the root of dx * dx + dy * dy. Each operation rounds, the root too, to the nearest double. It is the
+ *   straight distance on the map, as for lenthuc_nearest.
+ * - The charge is k * rate, where k is the least whole number with 1,000 * k not below the distance. So 0 m costs 0, 1,000 m
+ *   are 1 km, and the next double above 1,000 is 2 km.
+ * - Kilometres go by the root as it rounds, and not by the sum: (5000, 6e-5) is 5 km, though its sum is above 25,000,000. And
+ *   (1e-200, 0) costs 0, since its square vanishes.
+ * - Shares differ by at most one coin, the larger first, and add up to the charge: the first (charge % children) children pay
+ *   one coin more than the others.
+ * - 31 means that rate is above 1,000,000, that children is 0 or above LENTHUC_CHARGE_CHILDREN, or that the distance is not
+ *   finite or is above 1,000,000 m. The limits themselves pass. dx and dy have no limit of their own. rate and children have
+ *   64 bits, so that no larger number is cut to one that passes. An int of -1 is refused too.
+ *
+ * Proved: the number, *charge and every place of shares are those of the definition travel-charge, for every input. And the
+ * shares add up to the charge and never rise; those of any two children differ by at most one; past the last child they are 0.
+ * Where dx * dx + dy * dy is no greater than that of another way, which is answered, this one is too, and costs no more: so
+ * along the schools that lenthuc_nearest lists charges never fall.
+ */
+uint8_t lenthuc_travel_charge(double dx, double dy, uint64_t rate, uint64_t children, uint64_t *LENTHUC_RESTRICT charge,
+                              uint64_t *LENTHUC_RESTRICT shares);
 
 /* The most bytes that a sheet may have; and room for the longest answer to a sheet. */
 #define LENTHUC_SHEET_LIMIT 65536

@@ -9,8 +9,8 @@ use std::path::{Path, PathBuf};
 const FOLDER: &str = "LENTHUC_ARCHIVE";
 const ARCHIVE: &str = "libcapi.a";
 
-/// A function that archives of versions before 0.7.0 lack.
-const NEWEST: &[u8] = b"lenthuc_inverse_on_map";
+/// A function that archives of versions before 0.8.0 lack.
+const NEWEST: &[u8] = b"lenthuc_travel_charge";
 
 fn main() {
     println!("cargo::rerun-if-changed=build.rs");

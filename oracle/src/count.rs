@@ -7,7 +7,7 @@ use crate::line::Answer;
 pub struct Count([usize; NUMBERS as usize]);
 
 /// They are below this.
-const NUMBERS: u8 = 31;
+const NUMBERS: u8 = 32;
 
 impl Count {
     pub fn count(&mut self, answer: Answer) {

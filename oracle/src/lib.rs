@@ -1,17 +1,22 @@
 //! What the Rattle code is held against: document 01's fixed functions in Rust, written from 01
 //! alone, the source's own files with those functions and with the platform's, document 02's Albers
 //! on a sphere and its rounds beside them, its area of use over all and its ring on top, its nearest
-//! schools and its second inverse, and what to try them on. No crate of a registry.
+//! schools, its second inverse and its travel charge, and what to try them on. No crate of a registry.
 
 pub mod area;
 pub mod area_cases;
 pub mod area_sample;
 pub mod areas;
 pub mod cases;
+pub mod charge;
+pub mod charge_cases;
+pub mod charge_sample;
+pub mod charges;
 pub mod clicks;
 pub mod count;
 pub mod damage;
 pub mod ellipsoids;
+pub mod exact;
 pub mod expected;
 pub mod fixed;
 pub mod functions;

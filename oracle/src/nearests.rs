@@ -399,7 +399,7 @@ const SMALL: [f64; 7] = [
     f64::MIN_POSITIVE,
 ];
 
-fn small(patterns: &mut Patterns) -> f64 {
+pub fn small(patterns: &mut Patterns) -> f64 {
     match patterns.below(4) {
         0 => patterns.choose(&[0.0, -0.0]),
         _ => patterns.choose(&SMALL) * 4.0 * patterns.unit(),

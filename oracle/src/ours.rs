@@ -2,6 +2,7 @@
 
 use crate::area::{Area, AreaLine};
 use crate::cases;
+use crate::charge::{self, CHILDREN, ChargeAnswer, Shares, Stop};
 use crate::fixed;
 use crate::line::{Answer, Columns, F, LAT1, LAT2, Line, U, V};
 use crate::nearest::{self, Nearest, NearestAnswer};
@@ -203,6 +204,14 @@ unsafe extern "C" {
         ns: usize,
         order: *mut u16,
         os: usize,
+    ) -> u8;
+    safe fn lenthuc_travel_charge(
+        dx: f64,
+        dy: f64,
+        rate: u64,
+        children: u64,
+        charge: &mut u64,
+        shares: &mut Shares,
     ) -> u8;
 }
 
@@ -478,7 +487,7 @@ pub fn ring(question: &Ring) -> RingAnswer {
     RingAnswer::new(number, area, points, &longer)
 }
 
-/// So many places behind a buffer or a lent list are to stay as they are.
+/// So many places behind a buffer, a lent list or the shares are to stay as they are.
 const BEHIND: usize = 2;
 
 fn ring_by(
@@ -544,4 +553,33 @@ pub fn nearest_into(
     let (e, n, o) = (eastings.as_ptr(), northings.as_ptr(), order.as_mut_ptr());
     // SAFETY: it reads two slices and writes another, each with its length.
     unsafe { lenthuc_nearest(easting, northing, e, es, n, ns, o, os) }
+}
+
+/// The answer to a stop.
+pub fn travel_charge(stop: &Stop) -> ChargeAnswer {
+    let Stop { rate, children, .. } = *stop;
+    let [dx, dy] = stop.offset;
+    let before = charge::before::<{ CHILDREN + BEHIND }>();
+    let mut longer = before;
+    let shares = longer.first_chunk_mut().expect("as many places");
+    let (number, charge) = travel_charge_into((dx, dy, rate), children, shares);
+    let shares = *shares;
+    let untouched = longer[CHILDREN..] == before[CHILDREN..];
+    assert!(untouched, "nothing is written behind the shares");
+    ChargeAnswer {
+        number,
+        charge,
+        shares,
+    }
+}
+
+/// The number and the charge for dx, dy and a rate, and the shares in the lent places.
+pub fn travel_charge_into(
+    (dx, dy, rate): (f64, f64, u64),
+    children: u64,
+    shares: &mut Shares,
+) -> (u8, u64) {
+    let mut charge = u64::MAX;
+    let number = lenthuc_travel_charge(dx, dy, rate, children, &mut charge, shares);
+    (number, charge)
 }

@@ -26,7 +26,8 @@
 //! ```
 //!
 //! Angles are radians but in the functions named for degrees. Eastings and northings have the unit
-//! of the ellipsoid's semi-major axis, and a ring's area has its square.
+//! of the ellipsoid's semi-major axis, and a ring's area has its square. A travel charge goes by
+//! metres.
 //!
 //! # One point, or many
 //!
@@ -145,6 +146,30 @@
 //! # Ok::<(), Refusal>(())
 //! ```
 //!
+//! # The travel charge
+//!
+//! [`travel_charge`] gives what the way from a stop to a school costs, per started kilometre and in the
+//! smallest coin, and the share of each child at the stop.
+//!
+//! ```
+//! use lenthuc::{Refusal, nearest, travel_charge};
+//!
+//! // A stop and schools, in metres on one map. The nearest school is 5,200 from the stop.
+//! let stop = (1200.0, -300.0);
+//! let schools = [(-7000.0, 2700.0), (6000.0, 1700.0)];
+//! let (easting, northing) = schools[usize::from(nearest(stop, &schools)?[0])];
+//!
+//! // Six kilometres are started, at 0.40 each.
+//! let children = ["Ada", "Ben", "Eve", "Ida", "Leo", "Mia", "Tom"];
+//! let bill = travel_charge(easting - stop.0, northing - stop.1, 40, children.len() as u64)?;
+//! assert_eq!(bill.charge, 240);
+//! for (child, share) in children.iter().zip(bill.shares) {
+//!     println!("{child} pays {}.{:02}", share / 100, share % 100);
+//! }
+//! assert_eq!(bill.shares[..8], [35, 35, 34, 34, 34, 34, 34, 0]);
+//! # Ok::<(), Refusal>(())
+//! ```
+//!
 //! # What to rely on
 //!
 //! - Any `f64` may be handed to any function, whatever its bits. Every call ends.
@@ -158,13 +183,14 @@
 //! The archive is `libcapi.a`, which `rt staticlib capi` proves and writes into `target/staticlib`
 //! at the top of Lenthuc's repository. The build looks there, or in the folder that the environment
 //! variable `LENTHUC_ARCHIVE` names by an absolute path. The archive is for x86-64 Linux. It must
-//! have the crate's version: an older one is refused by the build, and building a projection and
-//! [`nearest`](nearest()) panic where the versions differ otherwise.
+//! have the crate's version: an older one is refused by the build, and building a projection,
+//! [`nearest`](nearest()) and [`travel_charge`] panic where the versions differ otherwise.
 
 #![deny(missing_docs, unsafe_code, unsafe_op_in_unsafe_fn)]
 
 mod area;
 mod built;
+mod charge;
 mod ellipsoid;
 mod kinds;
 mod nearest;
@@ -206,6 +232,7 @@ mod readme {}
 mod seal {}
 
 pub use area::{Area, normalize_longitude};
+pub use charge::{CHARGE_CHILDREN, TravelCharge, travel_charge};
 pub use ellipsoid::{
     AIRY1830, BESSEL1841, CLARKE1866, Ellipsoid, GRS80, INTL1924, KRASSOWSKY, UNIT_SPHERE, WGS84,
     WGS84_SPHERE,

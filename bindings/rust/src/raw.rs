@@ -1,6 +1,7 @@
 //! The archive's functions but the sheet's, as `bindings/c/lenthuc.h` documents them. All unsafe
 //! code is here.
 
+use crate::charge::CHARGE_CHILDREN;
 use crate::outcome::Outcome;
 
 /// What a projection is built of: a, f, lon0, lat0, lat1, lat2, false easting, false northing.
@@ -11,6 +12,9 @@ pub(crate) type Edges = [f64; 4];
 
 /// A built projection.
 pub(crate) type Numbers = [f64; 36];
+
+/// The children's shares of a charge.
+pub(crate) type Shares = [u64; CHARGE_CHILDREN];
 
 /// The version of the archive that this crate is for, which is the crate's own.
 const VERSION: u32 = 10_000 * part(env!("CARGO_PKG_VERSION_MAJOR"))
@@ -66,6 +70,14 @@ unsafe extern "C" {
         lat: &mut f64,
         number: &mut Outcome,
     ) -> u8;
+    safe fn lenthuc_travel_charge(
+        dx: f64,
+        dy: f64,
+        rate: u64,
+        children: u64,
+        charge: &mut u64,
+        shares: &mut Shares,
+    ) -> Outcome;
     fn lenthuc_forward_column(
         projection: &Numbers,
         lon: *const f64,
@@ -297,4 +309,12 @@ pub(crate) fn nearest(
             order.len(),
         )
     }
+}
+
+/// Of a way to school, what it costs and the shares; of a refusal all are 0.
+pub(crate) fn travel_charge(dx: f64, dy: f64, rate: u64, children: u64) -> (Outcome, u64, Shares) {
+    check_version();
+    let (mut charge, mut shares) = (0, [0; CHARGE_CHILDREN]);
+    let outcome = lenthuc_travel_charge(dx, dy, rate, children, &mut charge, &mut shares);
+    (outcome, charge, shares)
 }

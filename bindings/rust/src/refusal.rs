@@ -48,8 +48,8 @@ macro_rules! refusals {
     };
 }
 
-// The rows of docs/refusals.txt whose numbers a setting, a point, a ring or a list of schools can get
-// through this crate. A letter that names no kind, 2, cannot be written with its types.
+// The rows of docs/refusals.txt whose numbers a setting, a point, a ring, a list of schools or a charge
+// can get through this crate. A letter that names no kind, 2, cannot be written with its types.
 refusals! {
     InverseFlattening = 3, "the inverse flattening (1/f) is not a finite number above 1";
     SemiMajorAxis = 4, "the semi-major axis (a) is not a finite number above 0";
@@ -79,6 +79,7 @@ refusals! {
     RingResult = 28, "a buffer is shorter than the ring's points, or the area worked out is not a finite number";
     NearestInput = 29, "there are no schools or more than 256, the lists have unequal lengths, the list for the order is shorter, or a coordinate is not a finite number or above 1e8 in size";
     OffTheMap = 30, "the easting and northing lie off the map, beyond its edge";
+    ChargeInput = 31, "the rate is above 1,000,000, there are no children or more than 60, or the distance is not a finite number or above 1,000,000 m";
 }
 
 impl fmt::Display for Refusal {

@@ -1,6 +1,6 @@
 //! What `lenthuc.h` says and no type of the crate can ask: the version, any letter, projections that
 //! are refused or that no one built, areas that no one checked, kinds without a second inverse, results
-//! of refusals, a ring's too, and pointers of length 0.
+//! of refusals, a ring's and a charge's too, and pointers of length 0.
 
 mod common;
 
@@ -41,6 +41,14 @@ unsafe extern "C" {
         p: &mut f64,
         q: &mut f64,
         number: &mut u8,
+    ) -> u8;
+    safe fn lenthuc_travel_charge(
+        dx: f64,
+        dy: f64,
+        rate: u64,
+        children: u64,
+        charge: &mut u64,
+        shares: &mut [u64; 60],
     ) -> u8;
     fn lenthuc_forward_column(
         map: &Numbers,
@@ -804,6 +812,41 @@ fn null_of_nearest_schools() {
         // SAFETY: of length 0 nothing is read or written, and else there is one number.
         let said = unsafe { lenthuc_nearest(0.0, 0.0, eastings, e, northings, n, order, 0) };
         assert_eq!(said, 29, "{e} {n}");
+    }
+}
+
+/// A charge and its 60 shares take the place of whatever stood there, of a refusal too, and what stands
+/// beside them stays.
+#[test]
+fn places_of_a_charge() {
+    for (dx, rate, children, expected) in [
+        (4800.0, 40, 7, (0, 200)),
+        (4800.0, 40, 60, (0, 200)),
+        (4800.0, 0, 7, (0, 0)),
+        (0.0, 40, 1, (0, 0)),
+        (1e6, 1_000_000, 1, (0, 1_000_000_000)),
+        (4800.0, 40, 0, (31, 0)),
+        (4800.0, 40, 61, (31, 0)),
+        (4800.0, u64::MAX, 7, (31, 0)),
+        (f64::NAN, 40, 7, (31, 0)),
+        (f64::INFINITY, 40, 7, (31, 0)),
+    ] {
+        for before in [0, 1, 99, 1 << 32, u64::MAX] {
+            let (mut charges, mut places) = ([before; 3], [before; 62]);
+            let ([_, charge, _], [_, shares @ .., _]) = (&mut charges, &mut places);
+            let number = lenthuc_travel_charge(dx, 0.0, rate, children, charge, shares);
+            let (charge, shares) = (charges[1], &places[1..61]);
+            assert_eq!((number, charge), expected);
+            for (i, &share) in (0..).zip(shares) {
+                let due = match i < children && number == 0 {
+                    true => charge / children + u64::from(i < charge % children),
+                    false => 0,
+                };
+                assert_eq!(share, due, "{dx} {rate} {children} {i}");
+            }
+            let beside = [charges[0], charges[2], places[0], places[61]];
+            assert_eq!(beside, [before; 4]);
+        }
     }
 }
 

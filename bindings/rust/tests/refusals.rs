@@ -6,7 +6,7 @@ use common::{
     EARTH, KINDS, ON_MAP_KINDS, Random, Settings, WAYS, build, build_in, build_on_map, next_up,
     project,
 };
-use lenthuc::{Ellipsoid, Refusal, UnequalLengths, nearest, nearest_into};
+use lenthuc::{Ellipsoid, Refusal, UnequalLengths, nearest, nearest_into, travel_charge};
 use std::collections::HashSet;
 use std::error::Error;
 use std::f64::consts::{FRAC_PI_2, PI};
@@ -202,6 +202,23 @@ fn of_nearest_schools() {
 }
 
 #[test]
+fn of_travel_charges() {
+    let (dx, dy) = (300.0, -400.0);
+    assert_eq!(travel_charge(dx, dy, 40, 2).map(|bill| bill.charge), Ok(40));
+    for (dx, dy, rate, children) in [
+        (dx, dy, 1_000_001, 2),
+        (dx, dy, 40, 0),
+        (dx, dy, 40, 61),
+        (f64::NAN, dy, 40, 2),
+        (dx, f64::NEG_INFINITY, 40, 2),
+        (1e6, dy, 40, 2),
+    ] {
+        let refused = travel_charge(dx, dy, rate, children);
+        assert_eq!(refused, Err(Refusal::ChargeInput));
+    }
+}
+
+#[test]
 fn of_clicks_off_the_map() {
     for kind in ON_MAP_KINDS {
         let map = build_on_map(kind, EARTH, None).expect("a map of the Earth");
@@ -280,23 +297,23 @@ fn of_each_kind_alone() {
     }
 }
 
-/// Numbers name refusals and refusals have numbers, 3 to 30, and no other number is one.
+/// Numbers name refusals and refusals have numbers, 3 to 31, and no other number is one.
 #[test]
 fn by_number() {
     for number in 0..=u8::MAX {
         let named = Refusal::from_number(number);
-        assert_eq!(named.is_some(), (3..=30).contains(&number), "{number}");
+        assert_eq!(named.is_some(), (3..=31).contains(&number), "{number}");
         assert_eq!(named.map(Refusal::number), named.map(|_| number));
     }
 }
 
 #[test]
 fn as_errors() {
-    let messages: HashSet<_> = (3..=30)
+    let messages: HashSet<_> = (3..=31)
         .filter_map(Refusal::from_number)
         .map(|refusal| refusal.to_string())
         .collect();
-    assert_eq!(messages.len(), 28, "each has its own message");
+    assert_eq!(messages.len(), 29, "each has its own message");
     assert!(messages.iter().all(|message| message.len() > 20));
     let boxed: Box<dyn Error + Send + Sync> = Box::new(Refusal::Antipode);
     assert_eq!(boxed.downcast_ref(), Some(&Refusal::Antipode));

@@ -1,9 +1,10 @@
 //! What `Projection::ring` and `nearest` allocate: room for as many corners or schools as there may be,
-//! however many they are given. `Projection::ring_area` and `nearest_into` allocate nothing.
+//! however many they are given. `Projection::ring_area`, `nearest_into` and `travel_charge` allocate
+//! nothing.
 
 use lenthuc::{
     EqualEarth, NEAREST_SCHOOLS, Projection, RING_CORNERS, RING_ROOM, Refusal, WGS84, nearest,
-    nearest_into,
+    nearest_into, travel_charge,
 };
 use std::alloc::{GlobalAlloc, Layout, System};
 use std::cell::Cell;
@@ -123,6 +124,16 @@ fn of_a_lent_list() {
     let bytes = allocated(|| {
         let answer = nearest_into((0.0, 0.0), &eastings, &northings, &mut order);
         assert_eq!(answer, Ok(()));
+    });
+    assert_eq!(bytes, 0);
+}
+
+#[test]
+fn of_a_charge() {
+    let bytes = allocated(|| {
+        let bill = travel_charge(4800.0, 2000.0, 40, 60).expect("a charge");
+        assert_eq!((bill.charge, bill.shares), (240, [4; 60]));
+        assert_eq!(travel_charge(0.0, 0.0, 40, 61), Err(Refusal::ChargeInput));
     });
     assert_eq!(bytes, 0);
 }

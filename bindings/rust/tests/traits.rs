@@ -7,7 +7,7 @@ use common::{EARTH, KINDS, Random, WAYS, area, bits, build, build_in, project};
 use lenthuc::{
     AlbersEqualArea, AmericanPolyconic, Answer, Area, CassiniSoldner, Ellipsoid, EqualEarth,
     GuamProjection, LambertAzimuthalEqualArea, Outcome, Projection, Refusal, Ring, RingArea,
-    UnequalLengths, WGS84,
+    TravelCharge, UnequalLengths, WGS84,
 };
 use std::error::Error;
 use std::fmt::Debug;
@@ -92,6 +92,10 @@ fn types_are_plain_values() {
     plain(RingArea {
         area: 1.0,
         points: 3,
+    });
+    plain(TravelCharge {
+        charge: 1,
+        shares: [0; 60],
     });
     plain(LambertAzimuthalEqualArea::new(WGS84, 0.0, 0.0, 0.0, 0.0));
     plain(AlbersEqualArea::new(WGS84, 0.0, 0.0, 0.5, 0.5, 0.0, 0.0));

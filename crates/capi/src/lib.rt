@@ -1,5 +1,6 @@
 // What Rust and C link. bindings/c/lenthuc.h documents it for both.
 mod building;
+mod charges;
 mod columns;
 mod ellipsoids;
 mod longitudes;

@@ -1,12 +1,12 @@
 -- Floats that are no NaN are in an order by `lt`, and where neither of two is below the other they are equal.
-use mathlib.Core.Path.{_≡_, refl, sym, ap}
-use mathlib.Core.Bool.{Bool, true, false, _&&_, _||_, Bool·beq, true≢false}
+use mathlib.Core.Path.{_≡_, refl, sym, ap, _∙_}
+use mathlib.Core.Bool.{Bool, true, false, not, _&&_, _||_, Bool·beq, true≢false}
 use Prim.Native.Nat.{ℕ, zero, suc, _+_, _*_, _<_, _≤_}
 use native.Mathlib.Omega.{arith}
 use native.Mathlib.Nat.{suc-mul, zero-mul}
 use lib.Dec.{eqb}
 use borrow.Author.Tests.{ltb-true, ltb-false, le-ltb, eq-eqb, eqb-true}
-use lib.Ieee.{Float, nan, inf, fin, isNan, lt, eq, below, level, up, down}
+use lib.Ieee.{Float, nan, inf, fin, isNan, lt, le, eq, below, level, up, down}
 use lib.Ieee.Fits.{down-pos}
 use lib.Ieee.Positive.{through}
 
@@ -174,3 +174,17 @@ equal-apart-too (inf s) (fin t n d) h = absurd (true≢false (sym h))
 equal-apart-too (fin s m e) nan h = refl
 equal-apart-too (fin s m e) (inf t) h = absurd (true≢false (sym h))
 equal-apart-too (fin s m e) (fin t n d) h = level-back s t (m * up e * down d) (n * up d * down e) h
+
+-- ---- above is not at most
+
+pub above-or-not : (x y : Float) → isNan x ≡ false → isNan y ≡ false → lt y x ≡ not (le x y)
+unfolding le
+above-or-not x y h k = go (lt y x) (lt x y) (eq x y) refl refl refl
+  where
+    go : (a b e : Bool) → lt y x ≡ a → lt x y ≡ b → eq x y ≡ e → a ≡ not (b || e)
+    go true true e p q r = absurd (true≢false (sym q ∙ lt-asym y x p))
+    go true false true p q r = absurd (true≢false (sym p ∙ equal-apart-too x y r))
+    go true false false p q r = refl
+    go false true e p q r = refl
+    go false false true p q r = refl
+    go false false false p q r = absurd (true≢false (sym (neither-below x y h k q p) ∙ r))

@@ -5,7 +5,7 @@ use Rattle.float.specs.Operators.{_⊕_, _⊖_, _⊗_, _⊘_, _≺_}
 use Rattle.float.specs.Constants.{one, two}
 use Rattle.float.specs.Sign.{abs}
 use Rattle.float.specs.Limits.{clamp}
-use Rattle.root.specs.Root.{root}
+use Rattle.root.specs.Plane.{distance}
 use Rattle.trigonometry.specs.Trigonometry.{sine, cosine}
 use Rattle.fixed.specs.Arctangent.{arcsine, atan2}
 use Rattle.refusals.specs.Refusals.{OFF-THE-MAP}
@@ -25,11 +25,7 @@ use Rattle.lambert_azimuthal_equal_area.specs.declared.inverse.Click.the
 
 -- ---- where a click lies
 
--- ρ (Snyder 20-18)
-unfoldable pub distance : Float → Float → Float
-distance x y = root (x ⊗ x ⊕ y ⊗ y)
-
--- ρ of 24-28: the same function of x/D and D y
+-- ρ of 24-28: on the sphere and about a pole it is `distance` of x and y (20-18), and here of x/D and D y
 abbrev pub oblique-rho : LambertAzimuthalEqualArea → Float → Float → Float
 oblique-rho p dx dy = distance (dx ⊘ p .d) (p .d ⊗ dy)
 

@@ -4,8 +4,9 @@ use lib.Ieee.{Float}
 use lib.Ieee.Scale.{finite}
 use Rattle.float.specs.Operators.{_⊖_, _≺_}
 use Rattle.float.specs.Sign.{abs}
+use Rattle.root.specs.Plane.{distance}
 use Rattle.lambert_azimuthal_equal_area.specs.LambertAzimuthalEqualArea.{RHO-EPSILON, EDGE}
-use Rattle.lambert_azimuthal_equal_area.specs.Inverse.{distance, oblique-rho, half-sine, north-polar-quotient, south-polar-quotient}
+use Rattle.lambert_azimuthal_equal_area.specs.Inverse.{oblique-rho, half-sine, north-polar-quotient, south-polar-quotient}
 use Rattle.lambert_azimuthal_equal_area.specs.declared.Aspect.{Aspect}
 use Rattle.lambert_azimuthal_equal_area.specs.declared.Aspect.the-variants.{Oblique, NorthPolar, SouthPolar}
 use Rattle.lambert_azimuthal_equal_area.specs.declared.LambertAzimuthalEqualArea.{LambertAzimuthalEqualArea}

@@ -1,7 +1,7 @@
 // From the map to a place.
 ghost use mathlib.Core.Path.{_≡_};
 ghost use Rattle.projection.specs.OnTheMap.{OnTheMap};
-ghost use Rattle.lambert_azimuthal_equal_area.specs.Inverse.{distance, half-sine, judge, bounded-arcsine, angular-distance, place, formula, inverse};
+ghost use Rattle.lambert_azimuthal_equal_area.specs.Inverse.{half-sine, judge, bounded-arcsine, angular-distance, place, formula, inverse};
 use crate::Aspect;
 use crate::LambertAzimuthalEqualArea;
 use fixed::asin;
@@ -11,7 +11,6 @@ use projection::Frame;
 use projection::beyond_edge;
 use projection::finish;
 use projection::validate_projected;
-use root::root;
 
 // Where a click lies.
 pub(crate) enum Click {
@@ -31,12 +30,6 @@ pub(crate) fn judge(frame: Frame, rho: f64, quotient: f64) -> Click
     } else {
         Click::OnMap
     }
-}
-
-pub(crate) fn distance(x: f64, y: f64) -> f64
-    ensures { λ r. ⌜ r ≡ distance x y ⌝ }
-{
-    root(x * x + y * y)
 }
 
 // The sine of half the angle c from the centre on a sphere. On the map the place is at the distance rho from the centre.

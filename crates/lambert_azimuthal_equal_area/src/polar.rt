@@ -5,7 +5,6 @@ ghost use Rattle.lambert_azimuthal_equal_area.specs.Inverse.{north-polar
 use crate::LambertAzimuthalEqualArea;
 use crate::inverse::Click;
 use crate::inverse::bounded_arcsine;
-use crate::inverse::distance;
 use crate::inverse::judge;
 use authalic::geodetic_from_authalic;
 use fixed::atan2;
@@ -15,6 +14,7 @@ use projection::Answer;
 use projection::Frame;
 use projection::ensure_finite_xy;
 use refusals::OFF_THE_MAP;
+use root::distance;
 use root::root;
 use trigonometry::sin_cos;
 

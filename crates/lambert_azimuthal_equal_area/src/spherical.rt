@@ -6,7 +6,6 @@ use crate::LambertAzimuthalEqualArea;
 use crate::inverse::Click;
 use crate::inverse::angular_distance;
 use crate::inverse::bounded_arcsine;
-use crate::inverse::distance;
 use crate::inverse::half_sine;
 use crate::inverse::judge;
 use fixed::atan2;
@@ -15,6 +14,7 @@ use projection::Frame;
 use projection::ensure_finite_xy;
 use refusals::ANTIPODE;
 use refusals::OFF_THE_MAP;
+use root::distance;
 use root::root;
 use trigonometry::sin_cos;
 

@@ -121,6 +121,10 @@ NEAREST-INPUT = 29
 abbrev pub OFF-THE-MAP : ℕ
 OFF-THE-MAP = 30
 
+-- the rate is above 1,000,000, there are no children or more than 60, or the distance is not a finite number or above 1,000,000 m
+abbrev pub CHARGE-INPUT : ℕ
+CHARGE-INPUT = 31
+
 -- the columns have unequal lengths: nothing is read or written
 abbrev pub UNEQUAL-LENGTHS : ℕ
 UNEQUAL-LENGTHS = 255

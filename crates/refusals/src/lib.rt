@@ -90,5 +90,8 @@ pub const NEAREST_INPUT: u8 = 29;
 // The easting and northing lie off the map, beyond its edge.
 pub const OFF_THE_MAP: u8 = 30;
 
+// The rate is above 1,000,000, there are no children or more than 60, or the distance is not a finite number or above 1,000,000 m.
+pub const CHARGE_INPUT: u8 = 31;
+
 // The columns have unequal lengths: nothing is read or written.
 pub const UNEQUAL_LENGTHS: u8 = 255;

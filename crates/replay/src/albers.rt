@@ -1,26 +1,12 @@
 // The inverse of an Albers whose numbers are handed in, unchecked: nine in the order of its struct, an easting and a northing.
-use crate::line::has_number;
+use crate::line::is_in_form;
 use crate::line::number_of;
 use crate::reply::Reply;
 use crate::reply::of_answer;
 use albers_equal_area::AlbersEqualArea;
 
-// Eleven fields of 16 digits, commas between.
-const FIELDS: usize = 11;
-
-const LENGTH: usize = 186;
-
-fn is_in_form(text: &[u8]) -> bool {
-    for i in 0..FIELDS {
-        if !has_number(text, i) {
-            return false;
-        }
-    }
-    text.len() == LENGTH
-}
-
 pub(crate) fn of_albers(text: &[u8]) -> Reply {
-    if is_in_form(text) {
+    if is_in_form(text, 11) {
         let p = AlbersEqualArea {
             a: number_of(text, 0),
             e: number_of(text, 1),

@@ -1,4 +1,5 @@
 // The parts of a stored line.
+ghost use Prim.Native.Nat.{_<_, _≤_};
 use bytes::scan::find;
 use float::f64_of;
 use sheet::Hex;
@@ -33,17 +34,34 @@ pub(crate) fn answer(text: &[u8]) -> &[u8] {
 }
 
 // Whether a field is a number's 16 digits.
-pub(crate) fn has_number(text: &[u8], i: usize) -> bool {
+fn has_number(text: &[u8], i: usize) -> bool {
     match read_hex(field(text, i)) {
         Hex::Bits(_) => true,
         Hex::Malformed => false,
     }
 }
 
-// The number of a field; 0 where it has another form.
-pub(crate) fn number_of(text: &[u8], i: usize) -> f64 {
-    match read_hex(field(text, i)) {
-        Hex::Bits(bits) => f64_of(bits),
-        Hex::Malformed => 0.0,
+// Whether a text is so many fields of 16 digits, commas between.
+pub(crate) fn is_in_form(text: &[u8], fields: usize) -> bool
+    requires { ⌜ (0 < fields) × (fields ≤ 11) ⌝ }
+{
+    for i in 0..fields {
+        if !has_number(text, i) {
+            return false;
+        }
     }
+    text.len() == 17 * fields - 1
+}
+
+// The bits of a field; 0 where it has another form.
+pub(crate) fn bits_at(text: &[u8], i: usize) -> u64 {
+    match read_hex(field(text, i)) {
+        Hex::Bits(bits) => bits,
+        Hex::Malformed => 0,
+    }
+}
+
+// The number of a field, by its bits.
+pub(crate) fn number_of(text: &[u8], i: usize) -> f64 {
+    f64_of(bits_at(text, i))
 }

@@ -7,6 +7,7 @@
 // before that each line whose answer is not ours or whose question it does not understand.
 mod albers;
 mod areas;
+mod charges;
 mod ellipsoids;
 mod functions;
 mod line;

@@ -10,11 +10,13 @@
 // - `albers_inverse,` and the nine numbers of an Albers, unchecked, an easting and a northing: answered as in a sheet;
 // - `on_map,` and a value line of the inverse, or `on_map_in_area,` with the four edges after it: answered as in a sheet, but by
 //   the second inverse, and by `missing` where the kind has none;
+// - `travel_charge,`, dx, dy, the rate and the number of children: answered by the number, the charge and the shares in one number;
 // - a function and its arguments, answered by bits, a bool by 1 or 0: `root,4010000000000000 4000000000000000`;
 // - an ellipsoid's constructor and its arguments, or its name, answered as in a sheet by its number, a and f:
 //   `sphere,3ff0000000000000 0,3ff0000000000000,0000000000000000`.
 use crate::albers::of_albers;
 use crate::areas::of_area;
+use crate::charges::of_charge;
 use crate::ellipsoids::of_name;
 use crate::functions::of_one;
 use crate::functions::of_three;
@@ -111,6 +113,8 @@ pub(crate) fn reply(question: &[u8]) -> Reply {
         of_click(rest(question))
     } else if same(first, b"on_map_in_area") {
         of_click_in_area(rest(question))
+    } else if same(first, b"travel_charge") {
+        of_charge(rest(question))
     } else {
         of_call(question)
     }

@@ -12,9 +12,9 @@ use sheet::Hex;
 use sheet::field;
 use sheet::read_hex;
 
-// A number as its bits, a row of a sheet (the number of a refusal or 0, and two results as bits), the same of a ring (its area, the
-// number of its points) with both buffers in one number, a number and a list in one number, that what is asked for is missing, or
-// none where the question is not understood.
+// A number as its bits, a row of a sheet (the number of a refusal or 0, and two results as bits) or of a charge (the charge, and the
+// shares in one number), the same of a ring (its area, the number of its points) with both buffers in one number, a number and a list
+// in one number, that what is asked for is missing, or none where the question is not understood.
 pub(crate) enum Reply {
     Bits(u64),
     Row(u8, u64, u64),

@@ -5,7 +5,7 @@ use mathlib.Core.List.{List, [], _∷_, _++_}
 use lib.Ieee.{Float}
 use Rattle.float.specs.Operators.{_⊕_, _⊖_, _⊗_, _≼_}
 use Rattle.float.specs.Constants.{half}
-use Rattle.root.specs.Root.{root}
+use Rattle.root.specs.Plane.{distance}
 use Rattle.projection.specs.declared.Answer.{Answer}
 use Rattle.projection.specs.declared.Answer.the-variants as answer
 use Rattle.kinds.specs.Kinds.{forward}
@@ -50,9 +50,6 @@ place p lon lat = put lon lat (forward p lon lat)
 -- half the sum, of coordinates as they are given
 unfoldable pub halfway : Float → Float → Float
 halfway x y = (x ⊕ y) ⊗ half
-
-abbrev pub distance : Float → Float → Float
-distance dx dy = root (dx ⊗ dx ⊕ dy ⊗ dy)
 
 -- from the projected midpoint to the midpoint of the projected ends is at most 0.5 m
 unfoldable pub uncut : Point → Point → Point → Bool

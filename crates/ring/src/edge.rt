@@ -3,7 +3,7 @@ ghost use mathlib.Core.Path.{_≡_};
 ghost use Rattle.ring.specs.Edge.{halfway, place, uncut, midpoint};
 use kinds::Projection;
 use projection::Answer;
-use root::root;
+use root::distance;
 
 // A place, and where the projection puts it.
 pub(crate) struct Point {
@@ -53,7 +53,7 @@ fn uncut(a: Point, b: Point, m: Point) -> bool
 {
     let dx = m.easting - halfway(a.easting, b.easting);
     let dy = m.northing - halfway(a.northing, b.northing);
-    root(dx * dx + dy * dy) <= 0.5
+    distance(dx, dy) <= 0.5
 }
 
 pub(crate) fn midpoint(p: Projection, a: Point, b: Point) -> Middle

@@ -1,4 +1,4 @@
--- The root is not rounded past an f64: if b * b is at most x, its root is at least b, and if x is at most b * b, at most b.
+-- The root is not rounded past an f64: if b * b is at most x, its root is at least b, and if x is at most b * b, at most b. And it never falls.
 use mathlib.Core.Path.{_≡_, refl, sym, ap, _∙_}
 use mathlib.Core.Logic.{_≢_}
 use mathlib.Core.Bool.{true, false}
@@ -71,3 +71,25 @@ module _ (x : Float) (held : T (fits binary64 x)) (above : T (positive x)) where
     | yes l ↦ l
     | no n ↦ absurd (not-above h (lt-of-not-le n) (nearer-counts q (λ e. n (le-of-eq e))))
   ]
+
+-- ---- a root never falls
+
+-- if s is below r, r cannot be nearer to the root of w and s to that of v, which is no less
+not-crossed : {w v r s : ℕ} → s < r → w ≤ v → Nearer w (pos r) (pos s) → Nearer v (pos s) (pos r) → ⊥
+not-crossed {r = r} {s} l h (to-lower o n) q = omega (arith, ltb→lt r s (o .lt))
+not-crossed {r = r} {s} l h (to-upper o n) (to-lower p m) = omega (arith, n, m)
+not-crossed {r = r} {s} l h (to-upper o n) (to-upper p m) = omega (arith, ltb→lt r s (p .lt))
+
+pub root-rising : (x y : Float) → T (fits binary64 x) → T (fits binary64 y) → T (positive x) → T (positive y) → unit-count binary64 x ≤ unit-count binary64 y
+    → unit-count binary64 (root x) ≤ unit-count binary64 (root y)
+root-rising x y f g p q h =
+    let r = unit-count binary64 (root x) in
+    let s = unit-count binary64 (root y) in
+    elim (decLe r s) [
+      | yes l ↦ l
+      | no n ↦
+          absurd
+          (not-crossed (lt-of-not-le n) (mul-le-mul-right (2 ^ 1074) h)
+          (nearer-counts x f p (root-finite y g q) (λ e. n (le-of-eq e)))
+          (nearer-counts y g q (root-finite x f p) (λ e. n (le-of-eq (sym e)))))
+    ]

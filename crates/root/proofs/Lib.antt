@@ -11,3 +11,4 @@ mod Tests
 pub mod Nearest
 pub mod NearestOnly
 pub mod Bounds
+pub mod NotNegative

@@ -1,4 +1,5 @@
 pub mod Root
+pub mod Plane
 pub mod Nearest
 pub mod Opened
 pub mod Vectors

@@ -2,10 +2,12 @@
 mod digits;
 mod guess;
 mod near;
+mod plane;
 
 ghost use mathlib.Core.Path.{_≡_};
 ghost use Prim.Native.Nat.{_*_, _^_, _<_, _≤_};
 ghost use Rattle.root.specs.Root.{root, root-units};
+pub use plane::distance;
 
 // The root of m * 2^e, both in units of 2^-1074: q * 2^(e / 2 - 26), and q's leading digit adds one to the exponent's field.
 fn scaled_root(m: u64, e: u64) -> f64

@@ -1,11 +1,13 @@
 //! Writes the answers that crates/replay replays, of 01's functions, of the source with these, and of
 //! 02: of functions, of the ellipsoid's numbers, constructors and names, of value lines of each kind,
 //! with Albers on a sphere and its rounds, of such lines with an area of use, of rings, of nearest
-//! schools, of Albers inverses with numbers handed in, and of the second inverse.
+//! schools, of Albers inverses with numbers handed in, of the second inverse, and of travel charges.
 
 use oracle::area::{self, Rule as _};
 use oracle::area_sample::area_sample;
 use oracle::cases::{cases, numbers};
+use oracle::charge::{self, Rule as _};
+use oracle::charge_sample::charge_sample;
 use oracle::ellipsoids::{CONSTRUCTORS, Constructor, NAMED, named_arguments};
 use oracle::expected::answer;
 use oracle::functions::{Arguments, ELLIPSOID, FUNCTIONS, Function, Takes};
@@ -40,7 +42,8 @@ fn main() {
         .chain(rings())
         .chain(nearest_schools())
         .chain(handed_in())
-        .chain(clicks());
+        .chain(clicks())
+        .chain(travel_charges());
     for line in stored {
         println!("{line}");
     }
@@ -133,6 +136,14 @@ fn clicks() -> impl Iterator<Item = Stored> {
     on_map_sample().into_iter().map(|(click, why)| Stored {
         question: click.text(),
         answer: on_map::text(on_map::Meant.answer(&click)),
+        why,
+    })
+}
+
+fn travel_charges() -> impl Iterator<Item = Stored> {
+    charge_sample().into_iter().map(|(stop, why)| Stored {
+        question: stop.text(),
+        answer: charge::Meant.answer(&stop).text(),
         why,
     })
 }

@@ -1,0 +1,9 @@
+pub mod CountingUp
+pub mod WholePart
+pub mod Started
+pub mod Filling
+pub mod Answerable
+pub mod Billed
+pub mod FairShares
+pub mod Charged
+pub mod NeverDearer
