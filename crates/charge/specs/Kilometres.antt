@@ -1,4 +1,4 @@
--- The started kilometres of a distance.
+-- The started kilometres of a distance (document 02, Q-7).
 use Prim.Native.Nat.{ℕ, _*_, _^_}
 use mathlib.Core.Bool.{Bool}
 use lib.Dec.{leb}

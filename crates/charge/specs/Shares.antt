@@ -1,4 +1,4 @@
--- A charge divided among children: 60 shares in coins.
+-- A charge divided among children: 60 shares in coins (document 02, Q-7).
 use Prim.Native.Nat.{ℕ, _+_, _-_, _/_, _%_}
 use mathlib.Core.List.{List, _++_}
 use lib.ListN.{replicate}
