@@ -407,21 +407,30 @@ static void refused_rings(void)
     check(number == LENTHUC_RING_FORM, "no corners");
 }
 
-/* Metres on a map: the schools are 2,500, 500, 500 and 150 from the home. Of equal distances the first given comes first. */
+/*
+ * Metres on a map: the schools are 2,500, 500, 500 and 150 from the home, with 90, 480, 260 and 700 pupils. Of equal distances
+ * fewer pupils come first; without rolls, all zeros, the first given does.
+ */
 static void nearest_schools(void)
 {
     static const double east[SCHOOLS] = {900.0, -100.0, 200.0, 350.0}, north[SCHOOLS] = {2500.0, 500.0, -400.0, 100.0};
+    static const uint16_t rolls[SCHOOLS] = {90, 480, 260, 700}, zeros[SCHOOLS] = {0, 0, 0, 0};
     uint16_t order[SCHOOLS + 1] = {9, 9, 9, 9, 9};
-    uint8_t number = lenthuc_nearest(200.0, 100.0, east, SCHOOLS, north, SCHOOLS, order, SCHOOLS - 1);
+    uint8_t number = lenthuc_nearest(200.0, 100.0, east, SCHOOLS, north, SCHOOLS, rolls, SCHOOLS, order, SCHOOLS - 1);
     printf("too short a list: %s\n", lenthuc_words(number));
     check(number == LENTHUC_NEAREST_INPUT, "too short a list");
-    check(order[0] == 9 && order[1] == 9 && order[2] == 9 && order[3] == 9, "what too short a list holds");
-    number = lenthuc_nearest(200.0, 100.0, east, SCHOOLS, north, SCHOOLS, order, SCHOOLS + 1);
+    number = lenthuc_nearest(200.0, 100.0, east, SCHOOLS, north, SCHOOLS, rolls, SCHOOLS - 1, order, SCHOOLS);
+    check(number == LENTHUC_NEAREST_INPUT, "fewer rolls than schools");
+    check(order[0] == 9 && order[1] == 9 && order[2] == 9 && order[3] == 9, "what a refused list holds");
+    number = lenthuc_nearest(200.0, 100.0, east, SCHOOLS, north, SCHOOLS, rolls, SCHOOLS, order, SCHOOLS + 1);
     printf("schools, the nearest first: %d %d %d %d\n", order[0], order[1], order[2], order[3]);
     check(number == LENTHUC_ANSWERED, "the nearest schools");
-    check(order[0] == 3 && order[1] == 1 && order[2] == 2 && order[3] == 0, "the schools' order");
+    check(order[0] == 3 && order[1] == 2 && order[2] == 1 && order[3] == 0, "the schools' order");
     check(order[4] == 9, "what stands after the schools");
-    check(lenthuc_nearest(200.0, 100.0, NULL, 0, NULL, 0, NULL, 0) == LENTHUC_NEAREST_INPUT, "no schools");
+    number = lenthuc_nearest(200.0, 100.0, east, SCHOOLS, north, SCHOOLS, zeros, SCHOOLS, order, SCHOOLS);
+    check(number == LENTHUC_ANSWERED, "schools without rolls");
+    check(order[0] == 3 && order[1] == 1 && order[2] == 2 && order[3] == 0, "the order of schools without rolls");
+    check(lenthuc_nearest(200.0, 100.0, NULL, 0, NULL, 0, NULL, 0, NULL, 0) == LENTHUC_NEAREST_INPUT, "no schools");
 }
 
 /* An amount in the smallest coin, of which a hundred are a whole one. */

@@ -72,8 +72,8 @@
 extern "C" {
 #endif
 
-/* The version of this header, 0.8.0. The archive tells its own by lenthuc_version: where they differ, do not use it. */
-#define LENTHUC_VERSION 800
+/* The version of this header, 0.9.0. The archive tells its own by lenthuc_version: where they differ, do not use it. */
+#define LENTHUC_VERSION 900
 
 /* The version of the archive, as LENTHUC_VERSION. */
 uint32_t lenthuc_version(void);
@@ -186,7 +186,7 @@ LENTHUC_INLINE const char *lenthuc_words(uint8_t number)
     case LENTHUC_RING_RESULT:
         return "a buffer is shorter than the ring's points, or the area worked out is not a finite number";
     case LENTHUC_NEAREST_INPUT:
-        return "there are no schools or more than 256, the lists have unequal lengths, the list for the order is shorter, or a coordinate is not a finite number or above 1e8 in size";
+        return "there are no schools or more than 256, the coordinate lists have unequal lengths, the rolls or the places for the order are fewer than the schools, or a coordinate is not a finite number or above 1e8 in size";
     case LENTHUC_OFF_THE_MAP:
         return "the easting and northing lie off the map, beyond its edge";
     case LENTHUC_CHARGE_INPUT:
@@ -400,22 +400,27 @@ uint8_t lenthuc_ring_area(const struct lenthuc_projection *projection, const dou
 
 /*
  * Schools by their distance from a home, the nearest first. easting and northing are the home's, eastings and northings the
- * schools', all on one map. Returns 0, and puts the schools' positions in their lists, counted from 0, into the first places
- * of order, each school once; later places stay as they are. Or returns 29, and order stays as it is.
+ * schools', all on one map, and rolls has how many pupils each school has. Returns 0, and puts the schools' positions in their
+ * lists, counted from 0, into the first places of order, each school once; later places stay as they are. Or returns 29, and
+ * order stays as it is.
  *
  * - The school that has the least dx * dx + dy * dy is first, where dx and dy are its coordinates less the home's. Each
- *   operation rounds, and no root is taken. Schools that have equal sums stand in the order in which they are given.
- * - 29 means that eastings_length is 0, above LENTHUC_NEAREST_SCHOOLS, other than northings_length or above order_length; or
- *   that a coordinate, a school's or the home's, is not finite or is above 1e8 in size. 1e8 itself passes.
+ *   operation rounds, and no root is taken. Of schools that have equal sums the one with the smaller roll is first, and only
+ *   where rolls are equal too do they stand in the order in which they are given. No roll moves a farther school ahead.
+ * - A caller without rolls hands in as many zeros as there are schools. Rolls past the last school are not read.
+ * - 29 means that eastings_length is 0, above LENTHUC_NEAREST_SCHOOLS, other than northings_length, above rolls_length or above
+ *   order_length; or that a coordinate, a school's or the home's, is not finite or is above 1e8 in size. 1e8 itself passes, and
+ *   so does every roll.
  * - The distance is the straight one on the map, and not the way by road. How near it is to the one on the ground depends on
  *   the map, and is not proved.
  *
  * Proved: the number and the whole of order after the call are those of the definitions nearest-number and nearest-list, for
- * every length of the three lists.
+ * every length of the four lists. Where no two sums are equal, and where all rolls are, order does not depend on the rolls; and
+ * they never change the sum at a place of order.
  */
 uint8_t lenthuc_nearest(double easting, double northing, const double *eastings, size_t eastings_length,
-                        const double *northings, size_t northings_length, uint16_t *LENTHUC_RESTRICT order,
-                        size_t order_length);
+                        const double *northings, size_t northings_length, const uint16_t *rolls, size_t rolls_length,
+                        uint16_t *LENTHUC_RESTRICT order, size_t order_length);
 
 /* The most children that lenthuc_travel_charge takes, and how many places its shares have. */
 #define LENTHUC_CHARGE_CHILDREN 60

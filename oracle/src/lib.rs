@@ -39,6 +39,7 @@ pub mod ring;
 pub mod ring_cases;
 pub mod ring_sample;
 pub mod rings;
+pub mod roll_cases;
 pub mod round_cases;
 pub mod round_sample;
 pub mod rounds;

@@ -1,5 +1,5 @@
-//! Document 02's nearest schools for a home, from its words alone. Each step is a method of `Rule`, so
-//! that a test can put a wrong reading in its place.
+//! Document 02's nearest schools for a home, with rolls, from its words alone. Each step is a method of
+//! `Rule`, so that a test can put a wrong reading in its place.
 
 use crate::line::pattern;
 use crate::ring::Pair;
@@ -20,28 +20,35 @@ pub struct Nearest {
     pub home: Pair,
     /// How long the lists of eastings and northings are.
     pub lists: [usize; 2],
+    /// How long the list of rolls is.
+    pub rolled: usize,
     /// How long the lent list is.
     pub lent: usize,
     /// At least one. Where a list is longer, it has them again from the first.
     pub schools: Vec<Pair>,
+    /// One for each of these schools, and again from the first likewise.
+    pub rolls: Vec<u16>,
 }
 
 /// The name of such a question.
 const NAME: &str = "nearest";
 
 impl Nearest {
-    /// The name, the home, the lengths of the lists, that of the lent list, and the schools.
+    /// The name, the home, the lengths of the lists, those of the rolls and the lent list, the schools, and
+    /// their rolls.
     pub fn text(&self) -> String {
         let Nearest { home, lists, .. } = self;
         let bits = |x: &f64| x.to_bits();
-        let lengths = lists.iter().chain([&self.lent]);
+        let lengths = lists.iter().chain([&self.rolled, &self.lent]);
         let lengths = lengths.map(|&length| length as u64);
         let schools = self.schools.as_flattened().iter().map(bits);
+        let rolls = self.rolls.iter().map(|&roll| u64::from(roll));
         let fields: Vec<u64> = home
             .iter()
             .map(bits)
             .chain(lengths)
             .chain(schools)
+            .chain(rolls)
             .collect();
         question(NAME, &fields)
     }
@@ -53,16 +60,21 @@ impl Nearest {
         let fields: Option<Vec<u64>> = rest.split(',').map(read).collect();
         let fields = fields?;
         let (home, rest) = fields.split_first_chunk::<2>()?;
-        let (lengths, rest) = rest.split_first_chunk::<3>()?;
-        let [eastings, northings, lent] = lengths.map(|length| length as usize);
-        let (schools, none) = rest.as_chunks::<2>();
-        let known = name == NAME && none.is_empty() && !schools.is_empty();
+        let (lengths, rest) = rest.split_first_chunk::<4>()?;
+        let [eastings, northings, rolled, lent] = lengths.map(|length| length as usize);
+        let (schools, rolls) = rest.split_at(rest.len() / 3 * 2);
+        let rolls: Option<Vec<u16>> = rolls.iter().map(|&roll| roll.try_into().ok()).collect();
+        let rolls = rolls?;
+        let (schools, _) = schools.as_chunks::<2>();
+        let known = name == NAME && rolls.len() == schools.len() && !schools.is_empty();
         let pair = |bits: &[u64; 2]| bits.map(f64::from_bits);
         known.then_some(Nearest {
             home: pair(home),
             lists: [eastings, northings],
+            rolled,
             lent,
             schools: schools.iter().map(pair).collect(),
+            rolls,
         })
     }
 
@@ -77,6 +89,16 @@ impl Nearest {
             let schools = (0..self.lists[i]).map(|place| self.school(place));
             schools.map(|school| school[i]).collect()
         })
+    }
+
+    /// The roll at a place of its list.
+    pub fn roll(&self, place: usize) -> u16 {
+        self.rolls[place % self.rolls.len()]
+    }
+
+    /// The list of rolls.
+    pub fn rolls(&self) -> Vec<u16> {
+        (0..self.rolled).map(|place| self.roll(place)).collect()
     }
 
     /// The lent list before the call.
@@ -129,6 +151,11 @@ pub trait Rule {
         lent < schools
     }
 
+    /// "fewer rolls than schools is refused by number 29 too"
+    fn refuses_rolls(&self, rolls: usize, schools: usize) -> bool {
+        rolls < schools
+    }
+
     /// "or a coordinate not finite or above 1e8 in size"
     fn refuses_coordinate(&self, x: f64) -> bool {
         !x.is_finite() || x.abs() > LARGEST
@@ -146,6 +173,7 @@ pub trait Rule {
         self.refuses_count(schools)
             || self.refuses_lists(asked.lists)
             || self.refuses_lent(asked.lent, schools)
+            || self.refuses_rolls(asked.rolled, schools)
             || coordinates.into_iter().any(|x| self.refuses_coordinate(x))
     }
 
@@ -161,17 +189,21 @@ pub trait Rule {
         schools.map(|school| self.sum(asked.home, school)).collect()
     }
 
-    /// "their positions in the input, counted from 0, least" sum "first", "Equal sums go in input
-    /// order": the sort is stable. No sum is NaN or -0, so this is the order of the numbers.
-    fn positions(&self, sums: &[f64]) -> Vec<usize> {
+    /// "their positions in the input, counted from 0, least" sum "first"; "schools with equal sums now go
+    /// by fewer pupils on roll first, and only then in input order": the sort is stable. No sum is NaN or
+    /// -0, so this is the order of the numbers.
+    fn positions(&self, sums: &[f64], rolls: &[u16]) -> Vec<usize> {
         let mut positions: Vec<usize> = (0..sums.len()).collect();
-        positions.sort_by(|&one, &other| sums[one].total_cmp(&sums[other]));
+        positions.sort_by(|&one, &other| {
+            let by_sum = sums[one].total_cmp(&sums[other]);
+            by_sum.then(rolls[one].cmp(&rolls[other]))
+        });
         positions
     }
 
     /// What the list is filled with.
     fn order(&self, asked: &Nearest) -> Vec<usize> {
-        self.positions(&self.sums(asked))
+        self.positions(&self.sums(asked), &asked.rolls())
     }
 
     /// "fill a lent list with" them, and "later places of the list are untouched".

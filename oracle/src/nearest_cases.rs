@@ -3,10 +3,17 @@
 
 use crate::nearest::{LARGEST, MOST, NEAREST_INPUT, Nearest};
 use crate::ring::Pair;
+use crate::roll_cases::roll_cases;
+
+/// A request, and the number of its reading; 0 where 02's own words say it.
+#[derive(Clone, Copy, Debug, PartialEq)]
+pub enum Reading {
+    Q5(usize),
+    Q8(usize),
+}
 
 pub struct NearestCase {
-    /// By its number among Q-5's readings; 0 where 02's own words say it.
-    pub reading: usize,
+    pub reading: Reading,
     pub number: u8,
     /// The positions; none where it is refused.
     pub order: Vec<u16>,
@@ -27,20 +34,29 @@ pub fn nearest_cases() -> Vec<NearestCase> {
         differences,
         positions,
     ];
-    all.iter().flat_map(|cases| cases()).collect()
+    let by_sums = all.iter().flat_map(|cases| cases());
+    by_sums.chain(roll_cases()).collect()
 }
 
-/// The reading, the home, the schools. The lent list has a place more than there are schools.
-fn refused(reading: usize, home: Pair, schools: &[Pair], why: &'static str) -> NearestCase {
+/// The reading of Q-5, the home, the schools. The lent list has a place more than there are schools, and
+/// each roll is 0.
+pub(crate) fn refused(
+    reading: usize,
+    home: Pair,
+    schools: &[Pair],
+    why: &'static str,
+) -> NearestCase {
     let count = schools.len();
     let asked = Nearest {
         home,
         lists: [count; 2],
+        rolled: count,
         lent: count + 1,
         schools: schools.to_vec(),
+        rolls: vec![0; count],
     };
     NearestCase {
-        reading,
+        reading: Reading::Q5(reading),
         number: NEAREST_INPUT,
         order: Vec::new(),
         asked,
@@ -49,7 +65,7 @@ fn refused(reading: usize, home: Pair, schools: &[Pair], why: &'static str) -> N
 }
 
 /// The same with the order that it gets.
-fn case(
+pub(crate) fn case(
     reading: usize,
     home: Pair,
     schools: &[Pair],
@@ -83,18 +99,34 @@ fn again(
 
 /// How a case differs from that.
 impl NearestCase {
-    fn listed(mut self, eastings: usize, northings: usize) -> NearestCase {
+    /// With a roll for each easting.
+    pub(crate) fn listed(mut self, eastings: usize, northings: usize) -> NearestCase {
         self.asked.lists = [eastings, northings];
+        self.asked.rolled = eastings;
         self
     }
 
-    fn lent(mut self, places: usize) -> NearestCase {
+    pub(crate) fn lent(mut self, places: usize) -> NearestCase {
         self.asked.lent = places;
+        self
+    }
+
+    /// So many rolls.
+    pub(crate) fn rolled(mut self, rolls: usize) -> NearestCase {
+        self.asked.rolled = rolls;
+        self
+    }
+
+    /// The rolls of the schools, by a reading of Q-8.
+    pub(crate) fn rolls(mut self, rolls: &[u16], reading: usize) -> NearestCase {
+        assert_eq!(rolls.len(), self.asked.schools.len());
+        self.asked.rolls = rolls.to_vec();
+        self.reading = Reading::Q8(reading);
         self
     }
 }
 
-const HOME: Pair = [0.0, 0.0];
+pub(crate) const HOME: Pair = [0.0, 0.0];
 
 /// A place on an office's map.
 const OFFICE: Pair = [450_000.0, 5_400_000.0];

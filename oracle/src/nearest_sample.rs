@@ -17,10 +17,11 @@ const FEW: RangeInclusive<usize> = 3..=6;
 const LONG: [usize; 6] = [16, 33, 64, 100, 255, 256];
 
 /// The lists of many schools, and of how many.
-const MANY: [(Shape, RangeInclusive<usize>); 3] = [
+const MANY: [(Shape, RangeInclusive<usize>); 4] = [
     (Shape::Town, 30..=32),
     (Shape::Circle, 40..=48),
     (Shape::Grid, 60..=64),
+    (Shape::Campus, 40..=48),
 ];
 
 /// The shapes that are refused for more than a short lent list.

@@ -1,6 +1,7 @@
 //! Homes and schools to try the nearest list on: towns, grids and circles whose sums are equal or
-//! nearly so, lists that are sorted already, numbers so small or large that squares vanish or pass the
-//! limit, coordinates and lengths that are refused, lists of every length, and any patterns.
+//! nearly so, many schools at few places, lists that are sorted already, numbers so small or large that
+//! squares vanish or pass the limit, coordinates and lengths that are refused, lists of every length, and
+//! any patterns; each with rolls of all kinds.
 
 use crate::fixed::{T, cos, sin};
 use crate::nearest::{LARGEST, MOST, Meant, Nearest, Rule};
@@ -20,6 +21,8 @@ pub enum Shape {
     Mirror,
     /// A school or a few, again and again.
     Equal,
+    /// At a place or a few, each with a roll of its own.
+    Campus,
     /// Few numbers from each other, so that sums differ in their last bits.
     Steps,
     /// Some near and some far.
@@ -44,12 +47,13 @@ pub enum Shape {
     Sizes,
 }
 
-pub const SHAPES: [Shape; 16] = [
+pub const SHAPES: [Shape; 17] = [
     Shape::Town,
     Shape::Grid,
     Shape::Circle,
     Shape::Mirror,
     Shape::Equal,
+    Shape::Campus,
     Shape::Steps,
     Shape::Clusters,
     Shape::Sorted,
@@ -61,6 +65,12 @@ pub const SHAPES: [Shape; 16] = [
     Shape::Faulty,
     Shape::Lengths,
     Shape::Sizes,
+];
+
+/// The least and the largest roll, and those about which a number of fewer bits, or with a sign, would
+/// go wrong.
+const EDGE_ROLLS: [u16; 12] = [
+    0, 1, 127, 128, 255, 256, 32_766, 32_767, 32_768, 32_769, 65_534, 65_535,
 ];
 
 /// No list is longer.
@@ -88,6 +98,7 @@ impl Nearests {
             Shape::Circle => self.circle(),
             Shape::Mirror => self.mirror(),
             Shape::Equal => self.equal(),
+            Shape::Campus => self.campus(),
             Shape::Steps => self.steps(),
             Shape::Clusters => self.clusters(),
             Shape::Sorted => self.sorted(),
@@ -100,7 +111,9 @@ impl Nearests {
             Shape::Lengths => self.lengths(),
             Shape::Sizes => self.sizes(),
         };
-        asked.lent = self.lent(asked.lists[0]);
+        asked.lent = self.places(asked.lists[0]);
+        asked.rolled = self.places(asked.lists[0]);
+        asked.rolls = self.rolls(asked.schools.len());
         asked
     }
 
@@ -108,8 +121,9 @@ impl Nearests {
         self.patterns.below(most as u64) as usize
     }
 
-    /// The length of the lent list: mostly as many places as there are schools, or some more.
-    fn lent(&mut self, schools: usize) -> usize {
+    /// The length of the lent list, and of that of rolls: mostly as many places as there are schools, or
+    /// some more.
+    fn places(&mut self, schools: usize) -> usize {
         let places = match self.below(32) {
             0 => schools.saturating_sub(1),
             1 => self.below(schools + 1),
@@ -118,6 +132,22 @@ impl Nearests {
             _ => schools,
         };
         places.min(LONGEST)
+    }
+
+    /// Few numbers, so that many are equal, or any; of the edges, rising, falling or all the same.
+    fn rolls(&mut self, count: usize) -> Vec<u16> {
+        let kind = self.below(8);
+        let any = self.patterns.bits() as u16;
+        let roll = |place: usize| match kind {
+            0 => any,
+            1 => (place as u16).wrapping_add(any),
+            2 => any.wrapping_sub(place as u16),
+            3 => self.patterns.choose(&EDGE_ROLLS),
+            4 => self.patterns.bits() as u16,
+            5 => 20 + self.patterns.below(1500) as u16,
+            _ => self.patterns.below(4) as u16,
+        };
+        (0..count).map(roll).collect()
     }
 
     /// How many schools.
@@ -206,6 +236,18 @@ impl Nearests {
         };
         let few = 1 + self.below(3);
         asked.schools.truncate(few);
+        asked
+    }
+
+    fn campus(&mut self) -> Nearest {
+        let count = match self.patterns.coin() {
+            true => self.size().clamp(1, MOST),
+            false => self.count(),
+        };
+        let mut asked = self.equal();
+        let schools = (0..count).map(|_| self.patterns.choose(&asked.schools));
+        asked.schools = schools.collect();
+        asked.lists = [count; 2];
         asked
     }
 
@@ -383,8 +425,10 @@ fn asked(home: Pair, schools: Vec<Pair>) -> Nearest {
     Nearest {
         home,
         lists: [schools.len(); 2],
+        rolled: 0,
         lent: 0,
         schools,
+        rolls: Vec::new(),
     }
 }
 

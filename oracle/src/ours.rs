@@ -202,6 +202,8 @@ unsafe extern "C" {
         es: usize,
         northings: *const f64,
         ns: usize,
+        rolls: *const u16,
+        rs: usize,
         order: *mut u16,
         os: usize,
     ) -> u8;
@@ -536,7 +538,7 @@ pub fn nearest(asked: &Nearest) -> NearestAnswer {
     let [eastings, northings] = asked.eastings_and_northings();
     let mut list = nearest::lent(asked.lent + BEHIND);
     let order = &mut list[..asked.lent];
-    let number = nearest_into(asked.home, [&eastings, &northings], order);
+    let number = nearest_into(asked.home, [&eastings, &northings], &asked.rolls(), order);
     let behind = list.split_off(asked.lent);
     let untouched = nearest::lent(asked.lent + BEHIND).ends_with(&behind);
     assert!(untouched, "nothing is written behind a lent list");
@@ -547,12 +549,14 @@ pub fn nearest(asked: &Nearest) -> NearestAnswer {
 pub fn nearest_into(
     [easting, northing]: Pair,
     [eastings, northings]: [&[f64]; 2],
+    rolls: &[u16],
     order: &mut [u16],
 ) -> u8 {
-    let (es, ns, os) = (eastings.len(), northings.len(), order.len());
-    let (e, n, o) = (eastings.as_ptr(), northings.as_ptr(), order.as_mut_ptr());
-    // SAFETY: it reads two slices and writes another, each with its length.
-    unsafe { lenthuc_nearest(easting, northing, e, es, n, ns, o, os) }
+    let (es, ns) = (eastings.len(), northings.len());
+    let (e, n) = (eastings.as_ptr(), northings.as_ptr());
+    let (r, rs, o, os) = (rolls.as_ptr(), rolls.len(), order.as_mut_ptr(), order.len());
+    // SAFETY: it reads three slices and writes another, each with its length.
+    unsafe { lenthuc_nearest(easting, northing, e, es, n, ns, r, rs, o, os) }
 }
 
 /// The answer to a stop.

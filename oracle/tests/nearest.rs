@@ -2,6 +2,7 @@
 
 use oracle::fixed::root;
 use oracle::nearest::{LARGEST, MOST, Meant, NEAREST_INPUT, Nearest, NearestAnswer, Rule};
+use oracle::nearest_cases::Reading::{self, Q5, Q8};
 use oracle::nearest_cases::{NearestCase, nearest_cases};
 use oracle::nearest_sample::nearest_sample;
 use oracle::nearests::{LONGEST, Nearests, SHAPES};
@@ -10,7 +11,7 @@ use oracle::stored::Stored;
 use std::collections::BTreeSet;
 
 /// The cases of a reading, which get the number and the order that it says.
-fn reading(number: usize) -> Vec<NearestCase> {
+fn reading(number: Reading) -> Vec<NearestCase> {
     let mut cases = nearest_cases();
     cases.retain(|case| case.reading == number);
     assert!(!cases.is_empty());
@@ -41,14 +42,18 @@ fn sums(case: &NearestCase) -> Vec<f64> {
 
 #[test]
 fn the_least_sum_is_first() {
-    reading(0);
+    reading(Q5(0));
 }
 
-/// A school's place is the number of those with a smaller sum, and of those with the same that come
-/// before it.
-fn place_of(sums: &[f64], school: usize) -> usize {
+/// A school's place is the number of those with a smaller sum, of those with the same and a smaller roll,
+/// and of those with both the same that come before it.
+fn place_of(sums: &[f64], rolls: &[u16], school: usize) -> usize {
     let before = |&other: &usize| {
-        sums[other] < sums[school] || (sums[other] == sums[school] && other < school)
+        let equal = sums[other] == sums[school];
+        let same = equal && rolls[other] == rolls[school];
+        sums[other] < sums[school]
+            || (equal && rolls[other] < rolls[school])
+            || (same && other < school)
     };
     (0..sums.len()).filter(before).count()
 }
@@ -61,9 +66,9 @@ fn each_school_stands_in_it_once_at_its_place() {
         let schools = asked.lists[0];
         let mut expected = asked.lent();
         if number == 0 {
-            let sums = Meant.sums(asked);
+            let (sums, rolls) = (Meant.sums(asked), asked.rolls());
             for school in 0..schools {
-                expected[place_of(&sums, school)] = school as u16;
+                expected[place_of(&sums, &rolls, school)] = school as u16;
             }
             answered += 1;
         }
@@ -85,13 +90,14 @@ fn a_refusal_has_a_cause() {
             eastings.len() > MOST,
             eastings.len() != northings.len(),
             asked.lent < eastings.len(),
+            asked.rolled < eastings.len(),
             !all.all(sound),
         ];
         let refused = Meant.answer(asked).number == NEAREST_INPUT;
         assert_eq!(found.contains(&true), refused, "{}", asked.text());
         causes.extend(found.iter().position(|&cause| cause));
     });
-    assert_eq!(causes.len(), 5);
+    assert_eq!(causes.len(), 6);
 }
 
 /// No sum is NaN or has a sign, so that the order of the patterns is that of the numbers.
@@ -111,7 +117,7 @@ fn a_sum_is_a_number() {
 
 #[test]
 fn every_coordinate_is_looked_at() {
-    reading(1);
+    reading(Q5(1));
     for x in [LARGEST, LARGEST.next_down(), 0.0, f64::from_bits(1)] {
         assert!([x, -x].iter().all(|&x| !Meant.refuses_coordinate(x)), "{x}");
     }
@@ -125,7 +131,7 @@ fn every_coordinate_is_looked_at() {
 #[test]
 fn sums_are_compared_and_not_roots() {
     let by_root = |case: &&NearestCase| case.why == "sorted by the root";
-    let cases = reading(2);
+    let cases = reading(Q5(2));
     let mut met = 0;
     for case in cases.iter().filter(by_root) {
         let sums = sums(case);
@@ -138,25 +144,25 @@ fn sums_are_compared_and_not_roots() {
 
 #[test]
 fn equal_sums_go_in_input_order() {
-    let cases = reading(3);
+    let cases = reading(Q5(3));
     assert_eq!(sums(&cases[0]), [1.0; 2]);
     assert_eq!(sums(&cases[2]), [0.0; 2]);
 }
 
 #[test]
 fn the_lent_list_is_long_enough_or_refused() {
-    reading(4);
+    reading(Q5(4));
 }
 
 #[test]
 fn nothing_is_written_before_all_is_looked_at() {
-    reading(5);
+    reading(Q5(5));
 }
 
 /// School less home or home less school.
 #[test]
 fn each_difference_rounds() {
-    reading(6);
+    reading(Q5(6));
     let mut answered = 0;
     each_home(20_000, |_, asked| {
         if Meant.answer(asked).number == 0 {
@@ -171,7 +177,78 @@ fn each_difference_rounds() {
 
 #[test]
 fn positions_are_counted_from_0() {
-    reading(7);
+    reading(Q5(7));
+}
+
+#[test]
+fn rolls_decide_between_equal_sums() {
+    reading(Q8(0));
+    reading(Q8(2));
+    reading(Q8(4));
+}
+
+#[test]
+fn rolls_are_enough_or_refused() {
+    reading(Q8(3));
+}
+
+/// The list of a home before there were rolls.
+fn by_sums(asked: &Nearest) -> Vec<u16> {
+    let sums = Meant.sums(asked);
+    let mut order: Vec<u16> = (0..asked.lists[0] as u16).collect();
+    order.sort_by(|&one, &other| sums[usize::from(one)].total_cmp(&sums[usize::from(other)]));
+    let mut list = asked.lent();
+    list[..order.len()].copy_from_slice(&order);
+    list
+}
+
+/// Zeros, or one number for all, give the list that was before; and so does any list of rolls where no
+/// two sums are equal. Elsewhere rolls change it, but the sum at no place.
+#[test]
+fn without_equal_sums_or_rolls_the_list_is_as_before() {
+    reading(Q8(1));
+    let (mut alone, mut moved) = (0, 0);
+    each_home(40_000, |_, asked| {
+        let answer = Meant.answer(asked);
+        if answer.number != 0 {
+            return;
+        }
+        let before = by_sums(asked);
+        for roll in [0, 1, u16::MAX] {
+            let mut same = asked.clone();
+            same.rolls.fill(roll);
+            assert_eq!(Meant.answer(&same).list, before, "{}", same.text());
+        }
+        let sums = Meant.sums(asked);
+        let mut distinct = sums.clone();
+        distinct.sort_by(f64::total_cmp);
+        distinct.dedup();
+        if distinct.len() == sums.len() {
+            assert_eq!(answer.list, before, "{}", asked.text());
+            alone += usize::from(sums.len() > 1);
+        }
+        moved += usize::from(answer.list != before);
+        for (&one, &other) in answer.list.iter().zip(&before).take(sums.len()) {
+            assert_eq!(sums[usize::from(one)], sums[usize::from(other)]);
+        }
+    });
+    assert!(alone > 1000 && moved > 1000, "{alone} {moved}");
+}
+
+/// Whatever stands behind the schools' own.
+#[test]
+fn further_rolls_are_not_read() {
+    let mut tried = 0;
+    each_home(20_000, |_, asked| {
+        let answer = Meant.answer(asked);
+        let mut other = asked.clone();
+        other.rolled = asked.lists[0].max(1);
+        if answer.number == 0 && asked.rolled > other.rolled {
+            assert_eq!(Meant.answer(&other), answer, "{}", asked.text());
+            tried += 1;
+        }
+    });
+    assert!(tried > 100, "{tried}");
 }
 
 /// Both numbers come up in every shape, and lists of every length that is answered.
@@ -185,7 +262,7 @@ fn every_shape_is_answered_and_refused() {
         if number == 0 {
             lengths.insert(asked.lists[0]);
         }
-        let longest = asked.lists.iter().chain([&asked.lent]).max();
+        let longest = asked.lists.iter().chain([&asked.rolled, &asked.lent]).max();
         assert!(longest <= Some(&LONGEST), "{}", asked.text());
     });
     assert_eq!(met.len(), 2 * SHAPES.len());
@@ -203,7 +280,7 @@ fn a_question_is_read_as_it_is_written() {
         let answer = Meant.answer(&asked);
         assert_eq!(Meant.answer(&read), answer, "{question}");
         assert!(asked.schools.len() <= 64, "{question}");
-        let lists = asked.lists.iter().chain([&asked.lent]);
+        let lists = asked.lists.iter().chain([&asked.rolled, &asked.lent]);
         assert!(lists.into_iter().all(|&length| length <= 300), "{question}");
         let answer = answer.text();
         let stored = Stored {
@@ -213,20 +290,23 @@ fn a_question_is_read_as_it_is_written() {
         };
         bytes += stored.to_string().len() + 1;
     }
-    assert!(bytes <= 45_000, "{bytes}");
+    assert!(bytes <= 80_000, "{bytes}");
 }
 
 #[test]
 fn another_form_is_not_read() {
     let text = nearest_cases()[0].asked.text();
     assert!(Nearest::read(&text).is_some());
-    let pairless: String = text.split_inclusive(',').take(6).collect();
+    let pairless: String = text.split_inclusive(',').take(7).collect();
+    let (rest, _) = text.rsplit_once(',').expect("a roll");
     for other in [
         text.replace("nearest", "ring"),
         format!("{text},0000000000000000"),
         text[..text.len() - 1].to_owned(),
         text.replace('f', "F"),
         pairless.trim_end_matches(',').to_owned(),
+        rest.to_owned(),
+        format!("{rest},0000000000010000"),
     ] {
         assert!(Nearest::read(&other).is_none(), "{other}");
     }

@@ -124,9 +124,9 @@
 //!
 //! # The nearest schools
 //!
-//! [`nearest`](nearest()) takes a home and schools, eastings and northings on one map, and gives the
-//! schools' positions, the nearest first. [`nearest_into`] does the same with a list that is lent, and
-//! allocates nothing.
+//! [`nearest`](nearest()) takes a home and schools, eastings and northings on one map, and how many pupils
+//! each school has. It gives the schools' positions, the nearest first, and of equally near ones the smaller
+//! first. [`nearest_into`] does the same with a list that is lent, and allocates nothing.
 //!
 //! ```
 //! use lenthuc::{LambertAzimuthalEqualArea, Projection, Refusal, WGS84, nearest};
@@ -135,14 +135,16 @@
 //! let map = LambertAzimuthalEqualArea::new(WGS84, lon0, lat0, 0.0, 0.0)?;
 //!
 //! // Schools and a home, in degrees.
-//! let schools = [("Lake", 6.19, 49.61), ("Mill", 6.12, 49.65), ("Hill", 6.11, 49.6)];
+//! let schools = [("Lake", 6.19, 49.61), ("Mill", 6.12, 49.65), ("Hill", 6.11, 49.6), ("Hill High", 6.11, 49.6)];
 //! let on_map = schools.map(|(_, lon, lat)| map.forward_degrees(lon, lat));
 //! let on_map = on_map.into_iter().collect::<Result<Vec<_>, _>>()?;
 //! let home = map.forward_degrees(6.13, 49.61)?;
 //!
-//! let order = nearest(home, &on_map)?;
+//! // The two schools of Hill stand at one place. The smaller one comes first.
+//! let rolls = [310, 540, 420, 180];
+//! let order = nearest(home, &on_map, &rolls)?;
 //! let names: Vec<_> = order.into_iter().map(|i| schools[usize::from(i)].0).collect();
-//! assert_eq!(names, ["Hill", "Lake", "Mill"]);
+//! assert_eq!(names, ["Hill High", "Hill", "Lake", "Mill"]);
 //! # Ok::<(), Refusal>(())
 //! ```
 //!
@@ -157,7 +159,7 @@
 //! // A stop and schools, in metres on one map. The nearest school is 5,200 from the stop.
 //! let stop = (1200.0, -300.0);
 //! let schools = [(-7000.0, 2700.0), (6000.0, 1700.0)];
-//! let (easting, northing) = schools[usize::from(nearest(stop, &schools)?[0])];
+//! let (easting, northing) = schools[usize::from(nearest(stop, &schools, &[0, 0])?[0])];
 //!
 //! // Six kilometres are started, at 0.40 each.
 //! let children = ["Ada", "Ben", "Eve", "Ida", "Leo", "Mia", "Tom"];

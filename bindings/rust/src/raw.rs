@@ -138,6 +138,8 @@ unsafe extern "C" {
         eastings_length: usize,
         northings: *const f64,
         northings_length: usize,
+        rolls: *const u16,
+        rolls_length: usize,
         order: *mut u16,
         order_length: usize,
     ) -> Outcome;
@@ -291,12 +293,13 @@ pub(crate) fn ring_area(
 pub(crate) fn nearest(
     (easting, northing): (f64, f64),
     [eastings, northings]: [&[f64]; 2],
+    rolls: &[u16],
     order: &mut [u16],
 ) -> Outcome {
     check_version();
-    // SAFETY: each pointer and the length after it are of one slice. The function reads eastings and
-    // northings and writes order, each within its length, and keeps no pointer; the borrows say that
-    // order overlaps nothing else. It tests the lengths itself.
+    // SAFETY: each pointer and the length after it are of one slice. The function reads eastings,
+    // northings and rolls and writes order, each within its length, and keeps no pointer; the borrows say
+    // that order overlaps nothing else. It tests the lengths itself.
     unsafe {
         lenthuc_nearest(
             easting,
@@ -305,6 +308,8 @@ pub(crate) fn nearest(
             eastings.len(),
             northings.as_ptr(),
             northings.len(),
+            rolls.as_ptr(),
+            rolls.len(),
             order.as_mut_ptr(),
             order.len(),
         )

@@ -77,7 +77,7 @@ refusals! {
     OutsideArea = 26, "the place lies outside the area of use";
     RingForm = 27, "the ring's lists have unequal lengths, it has fewer than 3 or more than 4,096 corners, or its projection is of another kind than L, S, A and E";
     RingResult = 28, "a buffer is shorter than the ring's points, or the area worked out is not a finite number";
-    NearestInput = 29, "there are no schools or more than 256, the lists have unequal lengths, the list for the order is shorter, or a coordinate is not a finite number or above 1e8 in size";
+    NearestInput = 29, "there are no schools or more than 256, the coordinate lists have unequal lengths, the rolls or the places for the order are fewer than the schools, or a coordinate is not a finite number or above 1e8 in size";
     OffTheMap = 30, "the easting and northing lie off the map, beyond its edge";
     ChargeInput = 31, "the rate is above 1,000,000, there are no children or more than 60, or the distance is not a finite number or above 1,000,000 m";
 }

@@ -276,20 +276,26 @@ fn of_bad_distances() {
     assert_eq!(kilometres(8e5, -8e5), REFUSED);
 }
 
-/// Along the list of the nearest schools charges never fall.
+/// Along the list of the nearest schools charges never fall, and rolls change none of them.
 #[test]
 fn of_listed_schools() {
     let mut random = Random(53);
     for _ in 0..200 {
         let home = (random.within(1e6), random.within(1e6));
         let school = |_| (home.0 + random.within(2e4), home.1 + random.within(2e4));
-        let schools: Vec<_> = (0..50).map(school).collect();
-        let order = nearest(home, &schools).expect("an order");
-        let charges = order.into_iter().map(|i| {
-            let (easting, northing) = schools[usize::from(i)];
-            charge(easting - home.0, northing - home.1, 40, 3).expect("a charge")
-        });
-        assert!(charges.is_sorted());
+        let mut schools: Vec<_> = (0..50).map(school).collect();
+        schools.extend_from_within(..);
+        let rolls: Vec<_> = schools.iter().map(|_| random.bits() as u16).collect();
+        let charges = |rolls: &[u16]| {
+            let order = nearest(home, &schools, rolls).expect("an order");
+            let each = order.into_iter().map(|i| {
+                let (easting, northing) = schools[usize::from(i)];
+                charge(easting - home.0, northing - home.1, 40, 3).expect("a charge")
+            });
+            each.collect::<Vec<_>>()
+        };
+        assert!(charges(&rolls).is_sorted());
+        assert_eq!(charges(&rolls), charges(&[0; 100]));
     }
 }
 

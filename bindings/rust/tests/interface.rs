@@ -110,6 +110,8 @@ unsafe extern "C" {
         eastings_length: usize,
         northings: *const f64,
         northings_length: usize,
+        rolls: *const u16,
+        rolls_length: usize,
         order: *mut u16,
         order_length: usize,
     ) -> u8;
@@ -802,17 +804,23 @@ fn null_of_a_ring() {
     }
 }
 
-/// So it is each list of the nearest schools: 29, since there is no school or no place for one.
+/// So it is each list of the nearest schools: 29, since there is no school, no roll or no place for one.
 #[test]
 fn null_of_nearest_schools() {
-    let number = 300.0;
+    let (number, roll, mut place) = (300.0, 40, 9);
     let (one, none) = ((&raw const number, 1), (ptr::null(), 0));
+    let rolls = [(ptr::null(), 0), (&raw const roll, 1)];
+    let orders = [(ptr::null_mut(), 0), (&raw mut place, 1)];
     for ((eastings, e), (northings, n)) in [(none, none), (one, none), (none, one), (one, one)] {
-        let order = ptr::null_mut();
-        // SAFETY: of length 0 nothing is read or written, and else there is one number.
-        let said = unsafe { lenthuc_nearest(0.0, 0.0, eastings, e, northings, n, order, 0) };
-        assert_eq!(said, 29, "{e} {n}");
+        for ((rolls, r), (order, o)) in rolls.into_iter().flat_map(|r| orders.map(|o| (r, o))) {
+            // SAFETY: of length 0 nothing is read or written, and else there is one number.
+            let said =
+                unsafe { lenthuc_nearest(0.0, 0.0, eastings, e, northings, n, rolls, r, order, o) };
+            let expected = if e + n + r + o == 4 { 0 } else { 29 };
+            assert_eq!(said, expected, "{e} {n} {r} {o}");
+        }
     }
+    assert_eq!(place, 0);
 }
 
 /// A charge and its 60 shares take the place of whatever stood there, of a refusal too, and what stands

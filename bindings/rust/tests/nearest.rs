@@ -1,5 +1,6 @@
 //! The nearest schools: inputs on which two readings of the rule would differ; any town, place for
-//! place, by the rule written a second time; which places of the list are written; and what is refused.
+//! place, by the rule written a second time; which rolls are read and which places of the list are
+//! written; and what is refused.
 
 mod common;
 
@@ -27,27 +28,38 @@ fn unwritten(places: usize) -> Vec<u16> {
 /// the schools are.
 fn listed(
     home: Place,
-    eastings: &[f64],
-    northings: &[f64],
+    [eastings, northings]: [&[f64]; 2],
+    rolls: &[u16],
     places: usize,
 ) -> Result<Vec<u16>, Refusal> {
     let mut order = unwritten(places);
-    let answer = nearest_into(home, eastings, northings, &mut order);
+    let answer = nearest_into(home, eastings, northings, rolls, &mut order);
     let schools = answer.map_or(0, |()| eastings.len());
     assert_eq!(order[schools..], unwritten(places)[schools..]);
     order.truncate(schools);
     answer.map(|()| order)
 }
 
-/// The order, which is the same with a list that is just long enough, with longer ones, and by
+/// The order by rolls, which is the same with lists that are just long enough, with longer ones, and by
 /// `nearest`.
-fn order(home: Place, schools: &[Place]) -> Result<Vec<u16>, Refusal> {
+fn rolled(home: Place, schools: &[Place], rolls: &[u16]) -> Result<Vec<u16>, Refusal> {
     let (eastings, northings): (Vec<_>, Vec<_>) = schools.iter().copied().unzip();
-    let answer = nearest(home, schools);
+    let answer = nearest(home, schools, rolls);
+    let mut rolls = rolls.to_vec();
     for more in [0, 1, 300] {
         let places = schools.len() + more;
-        assert_eq!(listed(home, &eastings, &northings, places), answer);
+        // what is more than the schools is less than any of theirs, or greater
+        rolls.resize(places, if more == 1 { 0 } else { u16::MAX });
+        let lists = [&eastings, &northings].map(|list| list.as_slice());
+        assert_eq!(listed(home, lists, &rolls, places), answer);
     }
+    answer
+}
+
+/// The order without rolls: any one number is none.
+fn order(home: Place, schools: &[Place]) -> Result<Vec<u16>, Refusal> {
+    let [answer, other] = [0, 400].map(|roll| rolled(home, schools, &vec![roll; schools.len()]));
+    assert_eq!(answer, other);
     answer
 }
 
@@ -59,11 +71,13 @@ fn sum(dx: f64, dy: f64) -> f64 {
     dx * dx + dy * dy
 }
 
-/// The rule, written a second time, for any formula: a plain stable sort.
-fn sorted_by(formula: Formula, home: Place, schools: &[Place]) -> Vec<u16> {
+/// The rule, written a second time, for any formula: a plain stable sort, by rolls and then by what is
+/// compared.
+fn sorted_by(formula: Formula, home: Place, schools: &[Place], rolls: &[u16]) -> Vec<u16> {
     let of = |&(easting, northing): &Place| formula(easting - home.0, northing - home.1);
     let far: Vec<_> = schools.iter().map(of).collect();
     let mut order: Vec<_> = (0..schools.len() as u16).collect();
+    order.sort_by_key(|&i| rolls[usize::from(i)]);
     order.sort_by(|&i, &j| far[usize::from(i)].total_cmp(&far[usize::from(j)]));
     order
 }
@@ -144,6 +158,67 @@ fn of_every_short_list() {
     }
 }
 
+/// Fewer pupils come first, of equal sums alone, and only then the first given. 0 and 65,535 are rolls
+/// like others.
+#[test]
+fn by_rolls() {
+    let around = [(5.0, 0.0), (0.0, -5.0), (-3.0, 4.0), (4.0, 3.0)];
+    for (rolls, expected) in [
+        ([300, 900, 120, 450], [2, 0, 3, 1]),
+        ([8, 7, 8, 7], [1, 3, 0, 2]),
+        ([65_535, 0, 65_534, 1], [1, 3, 2, 0]),
+        ([32_768, 32_767, 256, 255], [3, 2, 1, 0]),
+        ([9, 9, 9, 8], [3, 0, 1, 2]),
+    ] {
+        assert_eq!(rolled(HOME, &around, &rolls), Ok(expected.to_vec()));
+    }
+    // the sums differ in their last bit, and their roots are equal
+    let near = [(1.0, 2.0_f64.powi(-26)), (1.0, 0.0)];
+    // the sums are equal by rounding alone
+    let equal = [(1.0, 1e-9), (1.0, 0.0)];
+    for (rolls, by_roll) in [([0, 65_535], [0, 1]), ([65_535, 0], [1, 0])] {
+        assert_eq!(rolled(HOME, &near, &rolls), Ok(vec![1, 0]));
+        assert_eq!(rolled(HOME, &equal, &rolls), Ok(by_roll.to_vec()));
+    }
+}
+
+/// Every list of four schools at three distances with three rolls: before a school stand those that are
+/// nearer, those that are equally far with fewer pupils, and those that are alike and were given before it.
+#[test]
+fn of_every_short_list_with_rolls() {
+    for code in 0..9_usize.pow(4) {
+        let kinds = [0, 1, 2, 3].map(|place| code / 9_usize.pow(place) % 9);
+        let mut expected = vec![0; 4];
+        for (i, own) in kinds.into_iter().enumerate() {
+            // a kind is three times the distance, and a roll
+            let less = kinds.iter().filter(|&&other| other < own).count();
+            let before = kinds[..i].iter().filter(|&&other| other == own).count();
+            expected[less + before] = i as u16;
+        }
+        let schools = kinds.map(|kind| ((kind / 3) as f64, 0.0));
+        let rolls = kinds.map(|kind| [0, 500, 65_535][kind % 3]);
+        assert_eq!(rolled(HOME, &schools, &rolls), Ok(expected), "{kinds:?}");
+    }
+}
+
+/// As many as there may be, at one place: rising rolls, falling ones, and two in turn.
+#[test]
+fn of_every_length_at_one_place() {
+    for count in 1..=NEAREST_SCHOOLS {
+        let schools = vec![(3.0, 4.0); count];
+        let of = |roll: &dyn Fn(usize) -> usize| {
+            let rolls: Vec<_> = (0..count).map(|i| roll(i) as u16).collect();
+            rolled(HOME, &schools, &rolls)
+        };
+        let positions = 0..count as u16;
+        assert_eq!(of(&|i| i), Ok(positions.clone().collect()));
+        assert_eq!(of(&|i| 60_000 - i), Ok(positions.clone().rev().collect()));
+        let evens = positions.clone().step_by(2);
+        let odds = positions.skip(1).step_by(2);
+        assert_eq!(of(&|i| 1 - i % 2), Ok(odds.chain(evens).collect()));
+    }
+}
+
 /// As many as there may be: in order, the other way round, all at one distance, and at two in turn.
 #[test]
 fn of_every_length() {
@@ -207,7 +282,7 @@ fn any(random: &mut Random) -> f64 {
 fn are_the_rule() {
     let mut random = Random(41);
     for (name, has_ties, draw) in TOWNS {
-        let mut tied = 0;
+        let (mut tied, mut moved) = (0, 0);
         for count in (1..=NEAREST_SCHOOLS).flat_map(|count| [count; 2]) {
             let home = match random.bits() % 4 {
                 0 => (random.within(LIMIT / 2.0), random.within(LIMIT / 2.0)),
@@ -216,12 +291,23 @@ fn are_the_rule() {
                 _ => HOME,
             };
             let schools: Vec<_> = (0..count).map(|_| draw(&mut random, home)).collect();
-            let found = order(home, &schools).expect("an order");
-            let expected = sorted_by(sum, home, &schools);
-            assert_eq!(found, expected, "{name} {home:?} {schools:?}");
-            tied += ties(home, &schools, &found);
+            // any numbers, few, or one
+            let numbers = [65_536, 3, 1][(random.bits() % 3) as usize];
+            let roll = |_| (random.bits() % numbers) as u16;
+            let rolls: Vec<_> = (0..count).map(roll).collect();
+            let found = rolled(home, &schools, &rolls).expect("an order");
+            let expected = sorted_by(sum, home, &schools, &rolls);
+            assert_eq!(found, expected, "{name} {home:?} {schools:?} {rolls:?}");
+            let without = order(home, &schools).expect("an order");
+            assert_eq!(without, sorted_by(sum, home, &schools, &vec![0; count]));
+            moved += usize::from(found != without);
+            let equal = ties(home, &schools, &found);
+            assert_eq!(equal, ties(home, &schools, &without));
+            assert!(equal > 0 || found == without, "{name} {home:?} {schools:?}");
+            tied += equal;
         }
         assert!(tied > 1000 || !has_ties, "{name} {tied}");
+        assert!(moved > 100 || !has_ties, "{name} {moved}");
     }
 }
 
@@ -243,9 +329,10 @@ fn by_no_other_formula() {
                 let angle = random.within(PI);
                 (2500.0 * angle.cos(), 2500.0 * angle.sin())
             });
-            let expected = sorted_by(sum, HOME, &schools);
-            others += usize::from(sorted_by(formula, HOME, &schools) != expected);
-            assert_eq!(order(HOME, &schools), Ok(expected), "{schools:?}");
+            let rolls = [random.bits() as u16 % 2, random.bits() as u16 % 2];
+            let expected = sorted_by(sum, HOME, &schools, &rolls);
+            others += usize::from(sorted_by(formula, HOME, &schools, &rolls) != expected);
+            assert_eq!(rolled(HOME, &schools, &rolls), Ok(expected), "{schools:?}");
         }
         assert!(others > 100, "{name} {others}");
     }
@@ -265,7 +352,7 @@ fn of_bad_coordinates() {
     let schools: Vec<_> = (0..NEAREST_SCHOOLS).map(|i| (i as f64, 1.0)).collect();
     let judge = |home: Place, schools: &[Place], is_good: bool| {
         let expected = match is_good {
-            true => Ok(sorted_by(sum, home, schools)),
+            true => Ok(sorted_by(sum, home, schools, &[0; NEAREST_SCHOOLS])),
             false => REFUSED,
         };
         assert_eq!(order(home, schools), expected, "{home:?}");
@@ -286,23 +373,28 @@ fn of_bad_coordinates() {
     }
 }
 
-/// Lists of any lengths: equal ones of 1 to 256 schools are taken, if the list for the order is as long.
-/// A length is taken whole: those over 65,535 are not what is left of them in 16 bits.
+/// Lists of any lengths: equal ones of 1 to 256 schools are taken, if the rolls and the list for the order
+/// are as long. A length is taken whole: those over 65,535 are not what is left of them in 16 bits.
 #[test]
 fn of_lengths() {
     let lengths = [
         0, 1, 2, 3, 255, 256, 257, 258, 512, 513, 65_535, 65_536, 65_537, 65_540, 1_000_000,
     ];
     let list: Vec<_> = (0..1_000_000).map(f64::from).collect();
+    let rolls = vec![7; 65_538];
     for (eastings, northings) in lengths.into_iter().flat_map(|n| lengths.map(|m| (n, m))) {
-        for places in [0, 1, 2, 3, 254, 255, 256, 257, 600] {
-            let found = listed(HOME, &list[..eastings], &list[..northings], places);
-            let fits = (1..=NEAREST_SCHOOLS.min(places)).contains(&eastings);
+        let lists = [&list[..eastings], &list[..northings]];
+        for (places, number) in [0, 1, 2, 3, 254, 255, 256, 257, 600]
+            .into_iter()
+            .flat_map(|places| [0, 1, 2, 255, 256, 65_536, 65_538].map(|number| (places, number)))
+        {
+            let found = listed(HOME, lists, &rolls[..number], places);
+            let fits = (1..=NEAREST_SCHOOLS.min(places).min(number)).contains(&eastings);
             let expected = match fits && eastings == northings {
                 true => Ok((0..eastings as u16).collect()),
                 false => REFUSED,
             };
-            assert_eq!(found, expected, "{eastings} {northings} {places}");
+            assert_eq!(found, expected, "{eastings} {northings} {number} {places}");
         }
     }
 }
@@ -315,7 +407,12 @@ fn of_too_many_schools() {
     assert!(order(HOME, &most).is_ok());
     for count in [257, 258, 511, 512, 513, 65_537, 65_792, 2_000_000] {
         for school in [(1.0, 2.0), (f64::NAN, 2.0)] {
-            assert_eq!(nearest(HOME, &vec![school; count]), REFUSED, "{count}");
+            let rolls = vec![0; count];
+            assert_eq!(
+                nearest(HOME, &vec![school; count], &rolls),
+                REFUSED,
+                "{count}"
+            );
         }
     }
 }
@@ -325,17 +422,21 @@ fn of_too_many_schools() {
 fn of_parts_of_lists() {
     let mut eastings = vec![f64::NAN; 600];
     let mut northings = vec![f64::INFINITY; 600];
+    let mut rolls = vec![0; 600];
     for count in 1..=NEAREST_SCHOOLS {
-        let (first, second, third) = (count % 7, count % 11, 300 - count);
+        let (first, second, third, fourth) = (count % 7, count % 11, 300 - count, count % 13);
         for i in 0..count {
-            eastings[first + i] = (count - i) as f64;
+            // by twos, of which the second has fewer pupils
+            eastings[first + i] = ((count - i).div_ceil(2)) as f64;
             northings[second + i] = 0.0;
+            rolls[fourth + i] = 1 + (count - i) as u16;
         }
         let mut order = unwritten(600);
         let answer = nearest_into(
             HOME,
             &eastings[first..first + count],
             &northings[second..second + count],
+            &rolls[fourth..fourth + count],
             &mut order[third..third + count],
         );
         assert_eq!(answer, Ok(()));
@@ -346,6 +447,7 @@ fn of_parts_of_lists() {
         assert_eq!(order, expected);
         eastings.fill(f64::NAN);
         northings.fill(f64::INFINITY);
+        rolls.fill(0);
     }
 }
 

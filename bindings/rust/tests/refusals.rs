@@ -186,19 +186,24 @@ fn of_rings() {
 #[test]
 fn of_nearest_schools() {
     let (home, school) = ((0.0, 0.0), (300.0, 400.0));
-    assert_eq!(nearest(home, &[school]), Ok(vec![0]));
+    assert_eq!(nearest(home, &[school], &[65_535]), Ok(vec![0]));
     for (home, schools) in [
         (home, vec![]),
         (home, vec![school; 257]),
         (home, vec![school, (f64::NAN, 400.0)]),
         ((0.0, -2e8), vec![school]),
     ] {
-        assert_eq!(nearest(home, &schools), Err(Refusal::NearestInput));
+        assert_eq!(
+            nearest(home, &schools, &[0; 300]),
+            Err(Refusal::NearestInput)
+        );
     }
-    let unequal = nearest_into(home, &[300.0, 0.0], &[400.0], &mut [0; 2]);
+    let unequal = nearest_into(home, &[300.0, 0.0], &[400.0], &[0; 2], &mut [0; 2]);
     assert_eq!(unequal, Err(Refusal::NearestInput));
-    let short = nearest_into(home, &[300.0], &[400.0], &mut []);
+    let short = nearest_into(home, &[300.0], &[400.0], &[0], &mut []);
     assert_eq!(short, Err(Refusal::NearestInput));
+    let fewer_rolls = nearest_into(home, &[300.0; 2], &[400.0; 2], &[0], &mut [0; 2]);
+    assert_eq!(fewer_rolls, Err(Refusal::NearestInput));
 }
 
 #[test]

@@ -99,7 +99,11 @@ const SCHOOL: usize = 2 * NUMBER + size_of::<u16>();
 fn of_too_many_schools() {
     let most = SCHOOL * (NEAREST_SCHOOLS + 1);
     let many = vec![(1.0, 2.0); 2_000_000];
-    let bytes = allocated(|| assert_eq!(nearest((0.0, 0.0), &many), Err(Refusal::NearestInput)));
+    let rolls = vec![0; 2_000_000];
+    let bytes = allocated(|| {
+        let answer = nearest((0.0, 0.0), &many, &rolls);
+        assert_eq!(answer, Err(Refusal::NearestInput));
+    });
     assert!(bytes <= most, "{bytes} of {most}");
 }
 
@@ -108,7 +112,7 @@ fn of_schools() {
     for count in [1, 10, 100, NEAREST_SCHOOLS] {
         let schools = vec![(1.0, 2.0); count];
         let bytes = allocated(|| {
-            let order = nearest((0.0, 0.0), &schools).expect("an order");
+            let order = nearest((0.0, 0.0), &schools, &[0; NEAREST_SCHOOLS]).expect("an order");
             assert_eq!((order.len(), order.capacity()), (count, count));
         });
         // a vector has room for four at least
@@ -122,7 +126,8 @@ fn of_a_lent_list() {
     let (eastings, northings) = ([1.0; NEAREST_SCHOOLS], [2.0; NEAREST_SCHOOLS]);
     let mut order = [0; NEAREST_SCHOOLS];
     let bytes = allocated(|| {
-        let answer = nearest_into((0.0, 0.0), &eastings, &northings, &mut order);
+        let rolls = [7; NEAREST_SCHOOLS];
+        let answer = nearest_into((0.0, 0.0), &eastings, &northings, &rolls, &mut order);
         assert_eq!(answer, Ok(()));
     });
     assert_eq!(bytes, 0);

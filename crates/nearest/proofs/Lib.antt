@@ -2,7 +2,11 @@ pub mod Counting
 pub mod Ranks
 pub mod Places
 pub mod Lists
+pub mod Positions
 pub mod Filled
 pub mod SumOrder
 pub mod Listed
+pub mod Alike
+pub mod Unaltered
+pub mod SameSums
 pub mod Coordinate

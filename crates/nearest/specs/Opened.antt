@@ -5,5 +5,5 @@ use Rattle.nearest.specs.Nearest as nearest
 
 unfoldable pub opened : Unit {0}
 unfolding float-below.opened order._then_ order.insert order.in-order nearest.square-sum nearest.sums nearest.comes-before nearest.order nearest.coordinate
-    nearest.coordinates nearest.answerable nearest.nearest-number
+    nearest.coordinates nearest.answerable nearest.enough nearest.nearest-number
 opened = tt

@@ -113,7 +113,7 @@ RING-FORM = 27
 abbrev pub RING-RESULT : ℕ
 RING-RESULT = 28
 
--- there are no schools or more than 256, the lists have unequal lengths, the list for the order is shorter, or a coordinate is not a finite number or above 1e8 in size
+-- there are no schools or more than 256, the coordinate lists have unequal lengths, the rolls or the places for the order are fewer than the schools, or a coordinate is not a finite number or above 1e8 in size
 abbrev pub NEAREST-INPUT : ℕ
 NEAREST-INPUT = 29
 

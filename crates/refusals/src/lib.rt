@@ -84,7 +84,7 @@ pub const RING_FORM: u8 = 27;
 // A buffer is shorter than the ring's points, or the area worked out is not a finite number.
 pub const RING_RESULT: u8 = 28;
 
-// There are no schools or more than 256, the lists have unequal lengths, the list for the order is shorter, or a coordinate is not a finite number or above 1e8 in size.
+// There are no schools or more than 256, the coordinate lists have unequal lengths, the rolls or the places for the order are fewer than the schools, or a coordinate is not a finite number or above 1e8 in size.
 pub const NEAREST_INPUT: u8 = 29;
 
 // The easting and northing lie off the map, beyond its edge.

@@ -5,8 +5,8 @@
 // - `ring,` and a value line whose u and v are the lengths of the lent buffers, with the lengths of both lists and the corners
 //   after it; or `ring_in_area,` with the four edges before those lengths: answered by the number, the area, the number of points
 //   and both buffers after the call in one number;
-// - `nearest,`, a home, the lengths of both lists of schools and of the list for the order, and the schools: answered by the number and
-//   that list after the call in one number;
+// - `nearest,`, a home, the lengths of both lists of schools, of their rolls and of the list for the order, the schools and their rolls:
+//   answered by the number and that list after the call in one number;
 // - `albers_inverse,` and the nine numbers of an Albers, unchecked, an easting and a northing: answered as in a sheet;
 // - `on_map,` and a value line of the inverse, or `on_map_in_area,` with the four edges after it: answered as in a sheet, but by
 //   the second inverse, and by `missing` where the kind has none;

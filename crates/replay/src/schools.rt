@@ -1,5 +1,5 @@
-// Nearest schools. Before the given schools, by pairs, stand the home, the lengths of both lists and that of the list for the order; a
-// list that is longer has the schools again from the first.
+// Nearest schools. Before the given schools, by pairs, stand the home, the lengths of the lists of eastings, northings and rolls, and that of
+// the list for the order; the schools' rolls stand after them. A list that is longer has them again from the first.
 ghost use mathlib.Core.Path.{_≡_};
 ghost use Prim.Native.Nat.{_<_, _≤_};
 ghost use lib.ListN.{length};
@@ -8,11 +8,14 @@ use crate::reply::Reply;
 use crate::rings::fill;
 use crate::rings::whole;
 use nearest::nearest;
+use sheet::Hex;
+use sheet::field;
+use sheet::read_hex;
 
-// The bytes of five fields with four commas, and of a pair with two.
-const HEAD: usize = 84;
+// The bytes of six fields with five commas, and of a school's three with three.
+const HEAD: usize = 101;
 
-const PAIR: usize = 34;
+const SCHOOL: usize = 51;
 
 // No list is longer, and no more schools are given.
 const PLACES: usize = 300;
@@ -29,6 +32,24 @@ fn positions() -> [u16; PLACES]
     ensures { λ r. ⌜ 300 ≡ length r ⌝ }
 {
     [0u16; PLACES]
+}
+
+fn roll(text: &[u8], i: usize) -> u16 {
+    match read_hex(field(text, i)) {
+        Hex::Bits(n) => (n % 65536) as u16,
+        Hex::Malformed => 0,
+    }
+}
+
+// The rolls of so many schools, which are the fields after the pairs, again and again.
+fn fill_rolls(list: &mut [u16], text: &[u8], given: usize)
+    requires { ⌜ (0 < given) × (given ≤ 64) ⌝ }
+{
+    let mut i = 0;
+    while i < list.len() {
+        list[i] = roll(text, 6 + 2 * given + i % given);
+        i += 1;
+    }
 }
 
 // What the list holds before the call: each place its own number, from 65,535 down.
@@ -56,13 +77,20 @@ fn print(list: &[u16]) -> u64 {
 }
 
 // The answer for a home with a list that is counted down before.
-fn lent(text: &[u8], eastings: &[f64], northings: &[f64], order: &mut [u16]) -> Reply {
+fn lent(
+    text: &[u8],
+    eastings: &[f64],
+    northings: &[f64],
+    rolls: &[u16],
+    order: &mut [u16],
+) -> Reply {
     count_down(order);
     let number = nearest(
         number_of(text, 0),
         number_of(text, 1),
         eastings,
         northings,
+        rolls,
         order,
     );
     Reply::List(number, print(order))
@@ -74,16 +102,20 @@ fn listed(text: &[u8], given: usize) -> Reply
 {
     let schools = whole(text, 2, PLACES);
     let others = whole(text, 3, PLACES);
-    let places = whole(text, 4, PLACES);
+    let rolled = whole(text, 4, PLACES);
+    let places = whole(text, 5, PLACES);
     let mut eastings = coordinates();
     let mut northings = coordinates();
-    fill(&mut eastings, text, 5, given);
-    fill(&mut northings, text, 6, given);
+    let mut rolls = positions();
+    fill(&mut eastings, text, 6, given);
+    fill(&mut northings, text, 7, given);
+    fill_rolls(&mut rolls, text, given);
     let mut order = positions();
     lent(
         text,
         &eastings[..schools],
         &northings[..others],
+        &rolls[..rolled],
         &mut order[..places],
     )
 }
@@ -94,8 +126,8 @@ pub(crate) fn of_schools(text: &[u8]) -> Reply {
         return Reply::None;
     }
     let size = text.len() - HEAD;
-    let given = size / PAIR;
-    if size % PAIR == 0 {
+    let given = size / SCHOOL;
+    if size % SCHOOL == 0 {
         if 0 < given {
             if given <= GIVEN {
                 return listed(text, given);

@@ -67,11 +67,14 @@ struct Tally {
     /// The same by shape.
     shapes: [Count; SHAPES.len()],
     /// Schools of the answered homes, those of the largest list, those whose sum the school before has
-    /// too, and places of all lent lists.
+    /// too, those of them whose roll it has as well, and places of all lent lists.
     schools: usize,
     most: usize,
     equal: usize,
+    alike: usize,
     places: usize,
+    /// Homes whose list is another by their rolls.
+    moved: usize,
 }
 
 impl Tally {
@@ -85,7 +88,12 @@ impl Tally {
             let schools = asked.lists[0];
             self.schools += schools;
             self.most = self.most.max(schools);
-            self.equal += equal_sums(asked, &meant.list[..schools]);
+            let [equal, alike] = equal_sums(asked, &meant.list[..schools]);
+            self.equal += equal;
+            self.alike += alike;
+            let mut without = asked.clone();
+            without.rolls.fill(0);
+            self.moved += usize::from(Meant.answer(&without) != meant);
         }
     }
 
@@ -106,12 +114,16 @@ impl Tally {
             schools,
             most,
             equal,
+            alike,
             places,
+            moved,
             differences,
             ..
         } = self;
-        let counted =
-            format!("{schools} schools, at most {most} of a home, {equal} after an equal sum");
+        let counted = format!(
+            "{schools} schools, at most {most} of a home, {equal} after an equal sum, {alike} of them \
+             with an equal roll, {moved} lists that rolls change"
+        );
         let homes = self.homes.text();
         format!("{counted}, {places} places of lent lists, {differences} differences;{homes}")
     }
@@ -136,9 +148,18 @@ impl Tally {
     }
 }
 
-/// How many schools of an order have the sum of the one before.
-fn equal_sums(asked: &Nearest, order: &[u16]) -> usize {
-    let sum = |&place: &u16| Meant.sum(asked.home, asked.school(place.into()));
-    let sums: Vec<f64> = order.iter().map(sum).collect();
-    sums.windows(2).filter(|both| both[0] == both[1]).count()
+/// How many schools of an order have the sum of the one before, and how many its roll as well.
+fn equal_sums(asked: &Nearest, order: &[u16]) -> [usize; 2] {
+    let both = |&place: &u16| {
+        let place = usize::from(place);
+        let sum = Meant.sum(asked.home, asked.school(place));
+        (sum, asked.roll(place))
+    };
+    let listed: Vec<(f64, u16)> = order.iter().map(both).collect();
+    let pairs = || listed.windows(2).map(|both| (both[0], both[1]));
+    let equal = pairs().filter(|(one, other)| one.0 == other.0);
+    [
+        equal.count(),
+        pairs().filter(|(one, other)| one == other).count(),
+    ]
 }

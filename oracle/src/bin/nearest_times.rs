@@ -1,8 +1,8 @@
-//! Times nearest lists: ours, and Rust's stable sort by the same sums, each formed once. Rust's side
-//! looks at the same lengths and coordinates and fills the same lent list, by sorting positions or by
-//! sorting sums with their positions on the stack. Towns of several sizes come first, of many homes, so
-//! that no order is learnt, and then other shapes of 256 schools. A figure is the median of the passes
-//! over all homes, the sides taking turns. Ends in 1 where an order of ours is not the Rust's.
+//! Times nearest lists: ours, and Rust's stable sort by the same sums, each formed once, and rolls. Rust's
+//! side looks at the same lengths and coordinates and fills the same lent list, by sorting positions or by
+//! sorting sums with their rolls and positions on the stack. Towns of several sizes come first, of many
+//! homes, so that no order is learnt, and then other shapes of 256 schools. A figure is the median of the
+//! passes over all homes, the sides taking turns. Ends in 1 where an order of ours is not the Rust's.
 
 use oracle::nearest::{LARGEST, MOST, Meant, NEAREST_INPUT, Rule, lent};
 use oracle::ours;
@@ -37,8 +37,8 @@ fn main() -> ExitCode {
     for size in SIZES {
         differ += line(&format!("a town of {size}"), &towns(size, &mut patterns));
     }
-    for (name, schools) in SHAPES {
-        differ += line(name, &alone(schools, &mut patterns));
+    for (name, schools, rolls) in SHAPES {
+        differ += line(name, &alone(schools, rolls, &mut patterns));
     }
     if differ > 0 {
         println!("{differ} orders are not the Rust's");
@@ -46,21 +46,30 @@ fn main() -> ExitCode {
     ExitCode::from(u8::from(differ > 0))
 }
 
+/// Eastings and northings, and rolls.
+type Lists = ([Vec<f64>; 2], Vec<u16>);
+
 /// Homes, each with the place of its schools, and schools.
 struct Batch {
     homes: Vec<(Pair, usize)>,
-    lists: Vec<[Vec<f64>; 2]>,
+    lists: Vec<Lists>,
 }
 
 impl Batch {
-    /// The coordinates of schools.
-    fn push(&mut self, schools: &[Pair]) {
+    /// The coordinates of schools, and their rolls.
+    fn push(&mut self, schools: &[Pair], rolls: Vec<u16>) {
         let list = |i: usize| schools.iter().map(|school| school[i]).collect();
-        self.lists.push([list(0), list(1)]);
+        self.lists.push(([list(0), list(1)], rolls));
     }
 
     fn schools(&self) -> usize {
-        self.lists[0][0].len()
+        self.lists[0].1.len()
+    }
+
+    /// The lists at a place.
+    fn lent(&self, place: usize) -> ([&[f64]; 2], &[u16]) {
+        let (lists, rolls) = &self.lists[place];
+        (lists.each_ref().map(|list| list.as_slice()), rolls)
     }
 }
 
@@ -77,7 +86,7 @@ fn towns(size: usize, patterns: &mut Patterns) -> Batch {
     };
     for _ in 0..TOWNS {
         let schools: Vec<Pair> = (0..size).map(|_| place(patterns)).collect();
-        batch.push(&schools);
+        batch.push(&schools, any_rolls(size, patterns));
     }
     batch
 }
@@ -85,17 +94,38 @@ fn towns(size: usize, patterns: &mut Patterns) -> Batch {
 /// The schools of a home.
 type Schools = fn(Pair, &mut Patterns) -> Vec<Pair>;
 
-const SHAPES: [(&str, Schools); 7] = [
-    ("256 in order", sorted),
-    ("256 in reversed order", reversed),
-    ("256 nearly in order", nearly_sorted),
-    ("256 at one place", equal),
-    ("256 on a grid", grid),
-    ("256 on a circle", circle),
-    ("256 in two clusters", clusters),
+/// The rolls of so many.
+type Rolls = fn(usize, &mut Patterns) -> Vec<u16>;
+
+const SHAPES: [(&str, Schools, Rolls); 11] = [
+    ("256 in order", sorted, any_rolls),
+    ("256 in reversed order", reversed, any_rolls),
+    ("256 nearly in order", nearly_sorted, any_rolls),
+    ("256 by twos", twos, any_rolls),
+    ("256 at one place", equal, any_rolls),
+    ("the same, rolls of 0", equal, no_rolls),
+    ("the same, falling rolls", equal, falling_rolls),
+    ("256 on a grid", grid, any_rolls),
+    ("the same, rolls of 0", grid, no_rolls),
+    ("256 on a circle", circle, any_rolls),
+    ("256 in two clusters", clusters, any_rolls),
 ];
 
-fn alone(schools: Schools, patterns: &mut Patterns) -> Batch {
+/// Of some dozens to some thousand pupils.
+fn any_rolls(count: usize, patterns: &mut Patterns) -> Vec<u16> {
+    let roll = |_| 20 + patterns.below(1500) as u16;
+    (0..count).map(roll).collect()
+}
+
+fn no_rolls(count: usize, _: &mut Patterns) -> Vec<u16> {
+    vec![0; count]
+}
+
+fn falling_rolls(count: usize, _: &mut Patterns) -> Vec<u16> {
+    (0..count as u16).rev().collect()
+}
+
+fn alone(schools: Schools, rolls: Rolls, patterns: &mut Patterns) -> Batch {
     let mut batch = Batch {
         homes: Vec::new(),
         lists: Vec::new(),
@@ -103,7 +133,8 @@ fn alone(schools: Schools, patterns: &mut Patterns) -> Batch {
     for home in 0..ALONE {
         let at = place(patterns);
         batch.homes.push((at, home));
-        batch.push(&schools(at, patterns));
+        let schools = schools(at, patterns);
+        batch.push(&schools, rolls(schools.len(), patterns));
     }
     batch
 }
@@ -128,6 +159,12 @@ fn nearly_sorted(home: Pair, patterns: &mut Patterns) -> Vec<Pair> {
         schools.swap(one, other);
     }
     schools
+}
+
+/// Two schools at each place, far from each other in the list.
+fn twos(_: Pair, patterns: &mut Patterns) -> Vec<Pair> {
+    let places: Vec<Pair> = (0..MOST / 2).map(|_| place(patterns)).collect();
+    [places.clone(), places].concat()
 }
 
 fn equal(_: Pair, patterns: &mut Patterns) -> Vec<Pair> {
@@ -161,7 +198,7 @@ fn clusters([east, north]: Pair, patterns: &mut Patterns) -> Vec<Pair> {
 }
 
 /// What fills a lent list.
-type Side = fn(Pair, [&[f64]; 2], &mut [u16]) -> u8;
+type Side = fn(Pair, [&[f64]; 2], &[u16], &mut [u16]) -> u8;
 
 const SIDES: [Side; 3] = [ours::nearest_into, by_positions, by_sums];
 
@@ -188,8 +225,13 @@ fn line(name: &str, batch: &Batch) -> usize {
 /// Every home once.
 fn pass(side: Side, batch: &Batch, list: &mut [u16]) {
     for &(home, place) in &batch.homes {
-        let lists = batch.lists[place].each_ref().map(|list| list.as_slice());
-        black_box(side(black_box(home), black_box(lists), list));
+        let (lists, rolls) = batch.lent(place);
+        black_box(side(
+            black_box(home),
+            black_box(lists),
+            black_box(rolls),
+            list,
+        ));
         black_box(&*list);
     }
 }
@@ -203,10 +245,10 @@ fn timed(work: impl FnOnce()) -> f64 {
 /// How many homes' lists are not the same by all sides.
 fn differing(batch: &Batch) -> usize {
     let differs = |&&(home, place): &&(Pair, usize)| {
-        let lists = batch.lists[place].each_ref().map(|list| list.as_slice());
+        let (lists, rolls) = batch.lent(place);
         let filled = SIDES.map(|side| {
             let mut list = lent(batch.schools() + 1);
-            (side(home, lists, &mut list), list)
+            (side(home, lists, rolls, &mut list), list)
         });
         filled[0].0 != 0 || filled.iter().any(|other| *other != filled[0])
     };
@@ -214,32 +256,38 @@ fn differing(batch: &Batch) -> usize {
 }
 
 /// 29, if it is that.
-fn refused(home: Pair, [eastings, northings]: [&[f64]; 2], order: &[u16]) -> bool {
+fn refused(home: Pair, [eastings, northings]: [&[f64]; 2], rolls: &[u16], order: &[u16]) -> bool {
     let count = eastings.len();
     let far = |x: &f64| !x.is_finite() || x.abs() > LARGEST;
     count == 0
         || count > MOST
         || northings.len() != count
+        || rolls.len() < count
         || order.len() < count
         || home.iter().any(far)
         || eastings.iter().any(far)
         || northings.iter().any(far)
 }
 
-fn by_positions(home: Pair, lists: [&[f64]; 2], order: &mut [u16]) -> u8 {
-    if refused(home, lists, order) {
+fn by_positions(home: Pair, lists: [&[f64]; 2], rolls: &[u16], order: &mut [u16]) -> u8 {
+    if refused(home, lists, rolls, order) {
         return NEAREST_INPUT;
     }
     match lists[0].len() {
-        ..=16 => sort_positions::<16>(home, lists, order),
-        17..=64 => sort_positions::<64>(home, lists, order),
-        _ => sort_positions::<MOST>(home, lists, order),
+        ..=16 => sort_positions::<16>(home, lists, rolls, order),
+        17..=64 => sort_positions::<64>(home, lists, rolls, order),
+        _ => sort_positions::<MOST>(home, lists, rolls, order),
     }
     0
 }
 
 /// With room for N sums on the stack.
-fn sort_positions<const N: usize>(home: Pair, lists: [&[f64]; 2], order: &mut [u16]) {
+fn sort_positions<const N: usize>(
+    home: Pair,
+    lists: [&[f64]; 2],
+    rolls: &[u16],
+    order: &mut [u16],
+) {
     let [eastings, northings] = lists;
     let mut sums = [0.0; N];
     let order = &mut order[..eastings.len()];
@@ -248,31 +296,38 @@ fn sort_positions<const N: usize>(home: Pair, lists: [&[f64]; 2], order: &mut [u
         order[place] = place as u16;
     }
     let sum = |&place: &u16| sums[usize::from(place)];
-    order.sort_by(|one, other| sum(one).total_cmp(&sum(other)));
+    let roll = |&place: &u16| rolls[usize::from(place)];
+    order.sort_by(|one, other| {
+        let by_sum = sum(one).total_cmp(&sum(other));
+        by_sum.then_with(|| roll(one).cmp(&roll(other)))
+    });
 }
 
-fn by_sums(home: Pair, lists: [&[f64]; 2], order: &mut [u16]) -> u8 {
-    if refused(home, lists, order) {
+fn by_sums(home: Pair, lists: [&[f64]; 2], rolls: &[u16], order: &mut [u16]) -> u8 {
+    if refused(home, lists, rolls, order) {
         return NEAREST_INPUT;
     }
     match lists[0].len() {
-        ..=16 => sort_sums::<16>(home, lists, order),
-        17..=64 => sort_sums::<64>(home, lists, order),
-        _ => sort_sums::<MOST>(home, lists, order),
+        ..=16 => sort_sums::<16>(home, lists, rolls, order),
+        17..=64 => sort_sums::<64>(home, lists, rolls, order),
+        _ => sort_sums::<MOST>(home, lists, rolls, order),
     }
     0
 }
 
-/// With room for N sums and their positions on the stack.
-fn sort_sums<const N: usize>(home: Pair, lists: [&[f64]; 2], order: &mut [u16]) {
+/// With room for N sums, their rolls and positions on the stack.
+fn sort_sums<const N: usize>(home: Pair, lists: [&[f64]; 2], rolls: &[u16], order: &mut [u16]) {
     let [eastings, northings] = lists;
-    let mut pairs = [(0.0, 0); N];
-    let pairs = &mut pairs[..eastings.len()];
+    let mut schools = [(0.0, 0, 0); N];
+    let schools = &mut schools[..eastings.len()];
     for (place, (&e, &n)) in eastings.iter().zip(northings).enumerate() {
-        pairs[place] = (Meant.sum(home, [e, n]), place as u16);
+        schools[place] = (Meant.sum(home, [e, n]), rolls[place], place as u16);
     }
-    pairs.sort_by(|one: &(f64, u16), other| one.0.partial_cmp(&other.0).expect("numbers"));
-    for (place, pair) in order.iter_mut().zip(pairs) {
-        *place = pair.1;
+    schools.sort_by(|one: &(f64, u16, u16), other| {
+        let by_sum = one.0.partial_cmp(&other.0).expect("numbers");
+        by_sum.then_with(|| one.1.cmp(&other.1))
+    });
+    for (place, school) in order.iter_mut().zip(schools) {
+        *place = school.2;
     }
 }
