@@ -415,8 +415,8 @@ uint8_t lenthuc_ring_area(const struct lenthuc_projection *projection, const dou
  *   the map, and is not proved.
  *
  * Proved: the number and the whole of order after the call are those of the definitions nearest-number and nearest-list, for
- * every length of the four lists. Where no two sums are equal, and where all rolls are, order does not depend on the rolls; and
- * they never change the sum at a place of order.
+ * every length of the four lists. Where no two sums are equal, order is the same whatever the rolls; where all rolls are equal,
+ * they decide nothing; and they never change the sum at a place of order.
  */
 uint8_t lenthuc_nearest(double easting, double northing, const double *eastings, size_t eastings_length,
                         const double *northings, size_t northings_length, const uint16_t *rolls, size_t rolls_length,
