@@ -135,7 +135,12 @@
 //! let map = LambertAzimuthalEqualArea::new(WGS84, lon0, lat0, 0.0, 0.0)?;
 //!
 //! // Schools and a home, in degrees.
-//! let schools = [("Lake", 6.19, 49.61), ("Mill", 6.12, 49.65), ("Hill", 6.11, 49.6), ("Hill High", 6.11, 49.6)];
+//! let schools = [
+//!     ("Lake", 6.19, 49.61),
+//!     ("Mill", 6.12, 49.65),
+//!     ("Hill", 6.11, 49.6),
+//!     ("Hill High", 6.11, 49.6),
+//! ];
 //! let on_map = schools.map(|(_, lon, lat)| map.forward_degrees(lon, lat));
 //! let on_map = on_map.into_iter().collect::<Result<Vec<_>, _>>()?;
 //! let home = map.forward_degrees(6.13, 49.61)?;
@@ -185,8 +190,8 @@
 //! The archive is `libcapi.a`, which `rt staticlib capi` proves and writes into `target/staticlib`
 //! at the top of Lenthuc's repository. The build looks there, or in the folder that the environment
 //! variable `LENTHUC_ARCHIVE` names by an absolute path. The archive is for x86-64 Linux. It must
-//! have the crate's version: an older one is refused by the build, and building a projection,
-//! [`nearest`](nearest()) and [`travel_charge`] panic where the versions differ otherwise.
+//! have the crate's version: one that lacks a function is refused by the build, and building a
+//! projection, [`nearest`](nearest()) and [`travel_charge`] panic where the versions differ otherwise.
 
 #![deny(missing_docs, unsafe_code, unsafe_op_in_unsafe_fn)]
 
