@@ -1,9 +1,8 @@
 //! Names where `rt staticlib` writes the archives that `src/ours.rs` links, and makes of the source's
-//! own files, in docs/src, three trees of modules that `src/source.rs` includes:
+//! own files, in docs/src, two trees of modules that `src/source.rs` includes:
 //!
 //! - `platform.rs` has them as they are but for the cuts, `crate::` leading to the tree;
-//! - `fixed.rs` has besides every function of the platform replaced by document 01's;
-//! - `limited.rs` is the same, but for whose methods these are: by any reading of 02's limit on angles.
+//! - `fixed.rs` has besides every function of the platform replaced by document 01's.
 //!
 //! What is cut is what docs/src lacks, and what uses it:
 //!
@@ -33,7 +32,7 @@ fn main() {
     println!("cargo::rerun-if-changed={source}");
     println!("cargo::rerun-if-changed=build.rs");
     let out = std::env::var("OUT_DIR").expect("cargo names a folder");
-    for build in ["fixed", "limited", "platform"] {
+    for build in ["fixed", "platform"] {
         let tree = tree(Path::new(&source), build);
         fs::write(format!("{out}/{build}.rs"), tree).expect("cargo's folder can be written");
     }
@@ -44,10 +43,8 @@ fn tree(source: &Path, build: &str) -> String {
     let file = |name: &str| {
         let text = fs::read_to_string(source.join(name)).expect("docs/src has the file");
         let mut text = cut(name, text).replace("crate::", &format!("crate::source::{build}::"));
-        match build {
-            "fixed" => text = fixed(name, &text) + "use crate::methods::Fixed as _;\n",
-            "limited" => text = fixed(name, &text) + "use crate::methods::Limited as _;\n",
-            _ => (),
+        if build == "fixed" {
+            text = fixed(name, &text) + "use crate::methods::Fixed as _;\n";
         }
         match name {
             "projection/albers_equal_area.rs" => text + HANDED,

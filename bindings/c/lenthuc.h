@@ -72,8 +72,8 @@
 extern "C" {
 #endif
 
-/* The version of this header, 0.10.0. The archive tells its own by lenthuc_version: where they differ, do not use it. */
-#define LENTHUC_VERSION 1000
+/* The version of this header, 0.9.0. The archive tells its own by lenthuc_version: where they differ, do not use it. */
+#define LENTHUC_VERSION 900
 
 /* The version of the archive, as LENTHUC_VERSION. */
 uint32_t lenthuc_version(void);

@@ -1,13 +1,9 @@
-//! Document 01's fixed functions, with document 02's limit on angles. Every operation rounds once, in
-//! 01's order.
+//! Document 01's fixed functions. Every operation rounds once, in 01's order.
 
 use std::f64::consts::{FRAC_PI_2, FRAC_PI_4, PI, SQRT_2};
 
 /// A whole turn, 01's T.
 pub const T: f64 = 2.0 * PI;
-
-/// 02's limit: of an argument above it in size there is no sine, cosine or tangent.
-pub const LIMIT: f64 = 1_048_576.0;
 
 /// What FRAC_PI_2 is short of π/2.
 const LO: f64 = f64::from_bits(0x3c91_a626_3314_5c07);
@@ -102,9 +98,11 @@ fn cosine_sum(r: f64) -> f64 {
     1.0 + w * nested(&COSINE, w)
 }
 
-/// The sine of a finite x, of any size.
 #[inline]
-pub fn finite_sin(x: f64) -> f64 {
+pub fn sin(x: f64) -> f64 {
+    if !x.is_finite() {
+        return f64::NAN;
+    }
     let (k, r) = quarters(x);
     let sine = match k % 4 {
         0 => sine_sum(r),
@@ -115,39 +113,17 @@ pub fn finite_sin(x: f64) -> f64 {
     if x.is_sign_negative() { -sine } else { sine }
 }
 
-/// The cosine of a finite x, of any size.
 #[inline]
-pub fn finite_cos(x: f64) -> f64 {
+pub fn cos(x: f64) -> f64 {
+    if !x.is_finite() {
+        return f64::NAN;
+    }
     let (k, r) = quarters(x);
     match k % 4 {
         0 => cosine_sum(r),
         1 => -sine_sum(r),
         2 => -cosine_sum(r),
         _ => sine_sum(r),
-    }
-}
-
-/// At most the limit in size, which a NaN is not.
-#[inline]
-pub fn within_limit(x: f64) -> bool {
-    x.abs() <= LIMIT
-}
-
-#[inline]
-pub fn sin(x: f64) -> f64 {
-    if within_limit(x) {
-        finite_sin(x)
-    } else {
-        f64::NAN
-    }
-}
-
-#[inline]
-pub fn cos(x: f64) -> f64 {
-    if within_limit(x) {
-        finite_cos(x)
-    } else {
-        f64::NAN
     }
 }
 

@@ -1,8 +1,7 @@
 //! What the Rattle code is held against: document 01's fixed functions in Rust, written from 01
-//! alone, with document 02's limit on angles, the source's own files with those functions and with the
-//! platform's, 02's Albers on a sphere and its rounds beside them, its area of use over all and its ring
-//! on top, its nearest schools, its second inverse and its travel charge, and what to try them on. No
-//! crate of a registry.
+//! alone, the source's own files with those functions and with the platform's, document 02's Albers
+//! on a sphere and its rounds beside them, its area of use over all and its ring on top, its nearest
+//! schools, its second inverse and its travel charge, and what to try them on. No crate of a registry.
 
 pub mod area;
 pub mod area_cases;
@@ -22,10 +21,6 @@ pub mod expected;
 pub mod fixed;
 pub mod functions;
 pub mod inverses;
-pub mod limit;
-pub mod limit_cases;
-pub mod limit_sample;
-pub mod limits;
 pub mod line;
 pub mod lines;
 pub mod methods;

@@ -1,6 +1,6 @@
 //! The patterns that the functions are tried on: a list of edges, and an endless seeded mixture.
 
-use crate::fixed::{LIMIT, T};
+use crate::fixed::T;
 use crate::functions::{Arguments, Takes};
 use std::f64::consts::{FRAC_PI_4, SQRT_2};
 
@@ -48,10 +48,10 @@ const THRESHOLDS: [f64; 17] = [
     9.0 * FRAC_PI_4,
 ];
 
-/// The specials, and each threshold and 02's limit with the f64 on either side of it, of both signs.
+/// The specials, and each threshold with the f64 on either side of it, of both signs.
 pub fn edges() -> Vec<u64> {
     let mut edges = SPECIALS.to_vec();
-    for threshold in THRESHOLDS.into_iter().chain([LIMIT]) {
+    for threshold in THRESHOLDS {
         for p in [-1, 0, 1].map(|step| threshold.to_bits().wrapping_add_signed(step)) {
             edges.extend([p, p | SIGN]);
         }

@@ -17,8 +17,7 @@ use Rattle.float.proofs.Finite.{Finite, finite_of}
 use Rattle.float.proofs.AbsoluteValue.{abs_finite}
 use Rattle.float.proofs.Comparison.{lt_units}
 use Rattle.fixed.specs.Arctangent.{arcsine}
-use Rattle.float.proofs.Within.{Within, Bounded, no_number, number}
-use Rattle.fixed.proofs.ArcsineBound.{RIGHT, arcsine_bound}
+use Rattle.fixed.proofs.ArcsineBound.{RIGHT, WithinRight, RightAngle, no_number, within, arcsine_bound}
 use Rattle.refusals.specs.Refusals.{INVERSE_INPUT, INVERSE_RESULT}
 use Rattle.projection.specs.Bound.{LAT_BOUND}
 use Rattle.projection.specs.Longitude.{normalize_longitude}
@@ -56,16 +55,16 @@ unfolding opened
 right_within_bound = lit≤ tt
 
 -- such a latitude is not beyond the bound
-not_beyond : (lat : Float) → Within binary64 RIGHT lat → (LAT_BOUND ≺ abs lat) ≡ false
+not_beyond : (lat : Float) → WithinRight lat → (LAT_BOUND ≺ abs lat) ≡ false
 not_beyond lat w =
     lt_units bound_is.units (abs_finite w.is).units ∙ le-ltb (unit_count binary64 LAT_BOUND) w.count (le_trans w.most right_within_bound)
 
-ended : (lon lat : Float) → Bounded binary64 RIGHT lat → ByInputOrResult (ensure_finite_lon_lat lon lat)
+ended : (lon lat : Float) → RightAngle lat → ByInputOrResult (ensure_finite_lon_lat lon lat)
 unfolding ensure_finite_lon_lat
 ended lon lat (no_number e) = rw (e, and-false (finite lon)) by_result
-ended lon lat (number w) = rw (not_beyond lat w) (either (finite lon && finite lat) (a_pair (normalize_longitude lon) lat) by_result)
+ended lon lat (within w) = rw (not_beyond lat w) (either (finite lon && finite lat) (a_pair (normalize_longitude lon) lat) by_result)
 
-checked : (b : Bool) (lon lat : Float) → Bounded binary64 RIGHT lat → ByInputOrResult (guard (cond b 0 INVERSE_INPUT) Refused (ensure_finite_lon_lat lon lat))
+checked : (b : Bool) (lon lat : Float) → RightAngle lat → ByInputOrResult (guard (cond b 0 INVERSE_INPUT) Refused (ensure_finite_lon_lat lon lat))
 unfolding guard
 checked true lon lat r = ended lon lat r
 checked false lon lat r = λ k h. inl cc

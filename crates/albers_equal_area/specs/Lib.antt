@@ -7,4 +7,3 @@ pub mod Opened
 pub mod Parallels
 pub mod RoundCases
 pub mod SphereCases
-pub mod WithoutLimit

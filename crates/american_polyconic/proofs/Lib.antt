@@ -1,4 +1,3 @@
 mod AdditionCommutes
 pub mod AsInSource
 pub mod NeverZero
-pub mod AngleLimit

@@ -2,5 +2,4 @@ pub mod Tolerances
 pub mod Newton
 pub mod AmericanPolyconic
 pub mod AsInSource
-pub mod WithoutLimit
 pub mod Opened

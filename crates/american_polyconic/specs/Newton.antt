@@ -21,13 +21,13 @@ nu e2 sp = root (one ⊖ e2 ⊗ sp ⊗ sp)
 unfoldable pub moved : Float → Float → Step
 moved dphi next = cond (abs dphi ≼ TOLERANCE) (Done next) (More next)
 
--- the fraction of Snyder 18-9 at φ, whose tangent is tp
-abbrev pub sphere_correction : Float → Float → Float → Float → Float
-sphere_correction ys b phi tp = (ys ⊗ (phi ⊗ tp ⊕ one) ⊖ phi ⊖ half ⊗ (phi ⊗ phi ⊕ b) ⊗ tp) ⊘ ((phi ⊖ ys) ⊘ tp ⊖ one)
-
+-- Snyder 18-9
 unfoldable pub sphere_step : Float → Float → Float → Step
 unfolding moved
-sphere_step ys b phi = let dphi = sphere_correction ys b phi (tangent phi) in moved dphi (phi ⊖ dphi)
+sphere_step ys b phi =
+    let tp = tangent phi in
+    let dphi = (ys ⊗ (phi ⊗ tp ⊕ one) ⊖ phi ⊖ half ⊗ (phi ⊗ phi ⊕ b) ⊗ tp) ⊘ ((phi ⊖ ys) ⊘ tp ⊖ one) in
+    moved dphi (phi ⊖ dphi)
 
 -- The fraction of Snyder 18-21, both its parts doubled and its sign turned: s2ph is half of sin 2φ, c his C (18-20), ml and mlp his Ma and M', mlb his Ma² + B.
 unfoldable pub fraction : Float → Float → Float → Float → Float → Float → Float → Float

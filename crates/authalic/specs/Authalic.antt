@@ -14,7 +14,7 @@ use Rattle.fixed.specs.Logarithm.{ln}
 abbrev pub ECCENTRICITY_EPSILON : Float
 ECCENTRICITY_EPSILON = f64 0x3cd203af9ee75616
 
-abbrev pub c6 : Float
+abbrev c6 : Float
 c6 = f64 0x4018000000000000
 
 abbrev c23 : Float

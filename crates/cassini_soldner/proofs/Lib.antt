@@ -1,4 +1,1 @@
 pub mod NeverZero
-mod Eightfold
-mod OwnFootpoint
-pub mod AngleLimit

@@ -83,13 +83,10 @@ unfoldable pub from_footpoint : CassiniSoldner → Float → Float → Answer
 from_footpoint p x lat1 =
     cond (abs (cosine lat1) ≺ POLE_EPSILON) (Pair p.lon0 (cond (+0 ≺ lat1) FRAC_PI_2 (neg FRAC_PI_2))) (place p x lat1)
 
--- μ₁ = M₁ / μ's denominator (7-19), M₁ = M₀ + y (13-12)
-abbrev pub rectifying : CassiniSoldner → Float → Float
-rectifying p y = (p.m0 ⊕ y ⊖ p.false_northing) ⊘ p.mu_denom
-
--- φ₁ of μ₁
+-- φ₁ of μ₁ = M₁ / μ's denominator (7-19), M₁ = M₀ + y (13-12)
 unfoldable pub footpoint : CassiniSoldner → Float → Float
-footpoint p y = footpoint_latitude (rectifying p y) p.e1_coeff2 p.e1_coeff4 p.e1_coeff6 p.e1_coeff8
+footpoint p y =
+    footpoint_latitude ((p.m0 ⊕ y ⊖ p.false_northing) ⊘ p.mu_denom) p.e1_coeff2 p.e1_coeff4 p.e1_coeff6 p.e1_coeff8
 
 -- 20, or the place with 01's "formula's longitude"
 unfoldable pub formula : CassiniSoldner → Float → Float → Answer

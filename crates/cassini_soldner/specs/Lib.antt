@@ -2,5 +2,4 @@ pub mod Constants
 pub mod Arc
 pub mod Series
 pub mod CassiniSoldner
-pub mod WithoutLimit
 pub mod Opened

@@ -1,4 +1,3 @@
 pub mod Negated
 pub mod AsInSource
 pub mod NeverZero
-pub mod Flattening

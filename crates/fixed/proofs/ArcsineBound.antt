@@ -16,10 +16,10 @@ use Rattle.float.proofs.Rounded.{rounded, rounded_whole}
 use Rattle.float.proofs.Monotone.{whole_mono}
 use Rattle.float.proofs.Finite.{Finite, finite_of}
 use Rattle.float.proofs.AbsoluteValue.{abs_finite}
+use Rattle.float.proofs.Negation.{neg_finite}
 use Rattle.float.proofs.Sum.{add_alike}
 use Rattle.float.proofs.Comparison.{lt_units}
 use Rattle.float.proofs.UpTo.{UpTo, up_to_more, mul_up_to, div_up_to, mul_by, sub_up_to}
-use Rattle.float.proofs.Within.{Within, Bounded, no_number, number, up_to_within, within_signed}
 use Rattle.root.specs.Root.{root}
 use Rattle.sums.proofs.FallingSum.{falling_sum, odds_fall}
 use Rattle.fixed.specs.Arctangent.{half_angle, arc, arctangent, arcsine}
@@ -67,6 +67,17 @@ inverted_up_to p =
     let l = rw low_word_lost at (whole_mono {p = 53} (lit< tt) (both_more (unit_count binary64 LO) q.most)) in
     record { count = _; is = add_alike q.is low_is (lt_of_le_of_lt l (lit< tt)); most = l }
 
+-- a float of at most RIGHT units, of either sign
+pub record WithinRight (x : Float) : Type 0 where
+  pub sign : Bool
+  pub count : ℕ
+  pub is : Finite binary64 x sign count
+  pub most : count ≤ RIGHT
+
+signed : (b : Bool) {x : Float} → UpTo binary64 RIGHT x → WithinRight (cond b (neg x) x)
+signed true p = record { sign = true; count = p.count; is = neg_finite p.is; most = p.most }
+signed false p = record { sign = false; count = p.count; is = p.is; most = p.most }
+
 -- ---- the arctangent of a finite number, of an infinity, and of a NaN
 module _ (x : Float) {a : ℕ} (p : Finite binary64 (abs x) false a) where
   -- t, inverted if above 1, is at most 1
@@ -81,12 +92,17 @@ module _ (x : Float) {a : ℕ} (p : Finite binary64 (abs x) false a) where
   angle true q = inverted_up_to (arc_up_to (quarter q))
   angle false q = up_to_more (lit≤ tt) (arc_up_to (quarter q))
 
-  finite_arctangent : Within binary64 RIGHT (arctangent x)
+  finite_arctangent : WithinRight (arctangent x)
   unfolding arctangent
-  finite_arctangent = within_signed (negative x) (up_to_within (angle (one ≺ abs x) (by_size (one ≺ abs x) refl)))
+  finite_arctangent = signed (negative x) (angle (one ≺ abs x) (by_size (one ≺ abs x) refl))
 
-right : Within binary64 RIGHT FRAC_PI_2
-right = record { sign = false; count = _; is = right_is; most = le_refl _ }
+-- a NaN, or at most FRAC_PI_2 in size
+pub data RightAngle (x : Float) : Type 0 where
+  no_number : x ≡ nan → RightAngle x
+  within : WithinRight x → RightAngle x
+
+right : UpTo binary64 RIGHT FRAC_PI_2
+right = record { count = _; is = right_is; most = le_refl _ }
 
 of_nan : arctangent nan ≡ nan
 unfolding opened
@@ -97,19 +113,18 @@ unfolding opened
 of_infinity true = refl
 of_infinity false = refl
 
--- a NaN, or at most FRAC_PI_2 in size
-pub arctangent_bound : (x : Float) → T (fits binary64 x) → Bounded binary64 RIGHT (arctangent x)
+pub arctangent_bound : (x : Float) → T (fits binary64 x) → RightAngle (arctangent x)
 arctangent_bound nan held = no_number of_nan
-arctangent_bound (inf s) held = number (rw (of_infinity s) (within_signed s right))
-arctangent_bound (fin s m e) held = number (finite_arctangent (fin s m e) (abs_finite (finite_of binary64 (fin s m e) held tt)))
+arctangent_bound (inf s) held = within (rw (of_infinity s) (signed s right))
+arctangent_bound (fin s m e) held = within (finite_arctangent (fin s m e) (abs_finite (finite_of binary64 (fin s m e) held tt)))
 
-pub arcsine_bound : (x : Float) → Bounded binary64 RIGHT (arcsine x)
+pub arcsine_bound : (x : Float) → RightAngle (arcsine x)
 unfolding arcsine
 arcsine_bound x =
     let divisor = root ((one ⊖ x) ⊗ (one ⊕ x)) in
     go (one ≺ abs x) (abs x ≈ one) (x ⊘ divisor) (div-fits binary64 x divisor)
   where
-    go : (b c : Bool) (y : Float) → T (fits binary64 y) → Bounded binary64 RIGHT (cond b nan (cond c (cond (negative x) (neg FRAC_PI_2) FRAC_PI_2) (arctangent y)))
+    go : (b c : Bool) (y : Float) → T (fits binary64 y) → RightAngle (cond b nan (cond c (cond (negative x) (neg FRAC_PI_2) FRAC_PI_2) (arctangent y)))
     go true c y held = no_number refl
-    go false true y held = number (within_signed (negative x) right)
+    go false true y held = within (signed (negative x) right)
     go false false y held = arctangent_bound y held

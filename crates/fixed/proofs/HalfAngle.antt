@@ -14,7 +14,7 @@ use Rattle.float.specs.Units.{unit_count}
 use Rattle.float.proofs.Representable.{Representable}
 use Rattle.float.proofs.Units.{units_count}
 use Rattle.float.proofs.Finite.{Finite, finite_of}
-use Rattle.float.proofs.Within.{power_representable}
+use Rattle.float.proofs.AtMost.{power_representable}
 use Rattle.float.proofs.UpTo.{UpTo, Between, up_to_more, mul_up_to, div_up_to, add_between}
 use Rattle.root.specs.Root.{root}
 use Rattle.root.proofs.Bounds.{root_finite, root_at_least, root_at_most}

@@ -1,12 +1,8 @@
 -- Comparisons of floats are comparisons of their signs and units.
-use mathlib.Core.Path.{◌≡◌, refl, ◌∙◌}
-use mathlib.Core.Logic.{inl, inr}
+use mathlib.Core.Path.{◌≡◌, refl}
 use mathlib.Core.Bool.{Bool, true, false, ◌||◌}
 use Prim.Native.Nat.{ℕ, ◌+◌, ◌*◌, ◌<◌}
-use native.Mathlib.Nat.{zero-mul, eq-or-lt_of_le}
-use native.Mathlib.Omega.{arith}
-use borrow.Author.Tests.{leb-true, leb-false, lt-ltb, le-ltb, eq-eqb, ne_eqb}
-use lib.Dec.{leb}
+use native.Mathlib.Nat.{zero-mul}
 use lib.Pow.{pow_pos}
 use lib.Ieee.{Float, Format, low, up, down, below, level, lt, eq, le}
 use Rattle.float.proofs.Units.{HasUnits}
@@ -42,14 +38,3 @@ pub le_units : {f : Format} {x y : Float} {s t : Bool} {a b : ℕ} → HasUnits 
     → le x y ≡ (below s a t b || level s a t b)
 unfolding le
 le_units v w = rw (lt_units v w, eq_units v w)
-
--- of two that are not negative, by their numbers of units
-pub le_counts : {f : Format} {x y : Float} {a b : ℕ} → HasUnits f x false a → HasUnits f y false b → le x y ≡ leb a b
-le_counts {a = a} {b} v w = le_units v w ∙ go (leb a b) refl
-  where
-    go : (c : Bool) → leb a b ≡ c → (below false a false b || level false a false b) ≡ c
-    go true h = elim (eq-or-lt_of_le (leb-true a b h)) [
-      | inl e ↦ rw (le-ltb a b (omega arith), eq-eqb a b e)
-      | inr l ↦ rw (lt-ltb a b l)
-    ]
-    go false h = let l = leb-false a b h in rw (le-ltb a b (omega arith), ne_eqb a b (λ e. omega arith))

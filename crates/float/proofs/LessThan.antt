@@ -188,11 +188,3 @@ above_or_not x y h k = go (lt y x) (lt x y) (eq x y) refl refl refl
     go false true e p q r = refl
     go false false true p q r = refl
     go false false false p q r = absurd (true≢false (sym (neither_below x y h k q p) ∙ r))
-
-pub above_not_at_most : (x y : Float) → lt y x ≡ true → le x y ≡ false
-unfolding le
-above_not_at_most x y h = rw (lt_asym y x h) (go (eq x y) refl)
-  where
-    go : (e : Bool) → eq x y ≡ e → e ≡ false
-    go true r = absurd (true≢false (sym h ∙ equal_apart_too x y r))
-    go false r = refl

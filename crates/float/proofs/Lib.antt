@@ -16,7 +16,6 @@ pub mod Rounded
 pub mod RoundedExact
 pub mod HalfUnit
 pub mod RelativeError
-pub mod Halves
 pub mod Nearest
 pub mod Monotone
 pub mod Underflow
@@ -42,11 +41,9 @@ pub mod Remainder
 pub mod Comparison
 pub mod UnitOrder
 pub mod SizeBound
-pub mod UpTo
-pub mod Within
 pub mod AtMost
+pub mod UpTo
 pub mod NotANumber
-pub mod NotFinite
 pub mod NeverNan
 pub mod LessThan
 pub mod Zero

@@ -36,12 +36,6 @@ module _ (f : Format) where
   mul_nan (inf s) = refl
   mul_nan (fin s m e) = refl
 
-  pub div_nan : (x : Float) → div f x nan ≡ nan
-  unfolding div
-  div_nan nan = refl
-  div_nan (inf s) = refl
-  div_nan (fin s m e) = refl
-
 pub nan_at_most : (x : Float) → le nan x ≡ false
 unfolding lt le eq
 nan_at_most x = refl
@@ -61,6 +55,3 @@ unfolding lt
 below_nan nan = refl
 below_nan (inf s) = refl
 below_nan (fin s m e) = refl
-
--- for `simp`: a formula with a NaN in it
-pub ruleset nans = (nan_add, nan_sub, nan_mul, nan_div, add_nan, sub_nan, mul_nan, div_nan, nan_at_most, at_most_nan, nan_below, below_nan)

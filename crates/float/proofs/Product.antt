@@ -1,18 +1,17 @@
 -- The product of two floats, in units: a * b / 2 ^ low units, rounded once.
-use mathlib.Core.Path.{◌≡◌, subst}
+use mathlib.Core.Path.{◌≡◌}
 use mathlib.Core.Bool.{Bool}
 use Prim.Native.Nat.{ℕ, ◌*◌, ◌^◌, ◌≤◌, ◌<◌}
 use native.Mathlib.Nat.{lt_of_le_of_lt, mul-pos, mul-le-mul_left, mul-mul-mul_comm}
-use lib.Dec.{T}
 use lib.Pow.{pow_pos}
 use lib.Ieee.{Float, Format, prec, low, up, down, round, mul, unlike}
-use lib.Ieee.Scale.{finite, round_same, overflow}
+use lib.Ieee.Scale.{round_same, overflow}
 use Rattle.float.proofs.Rounded.{rounded}
 use Rattle.float.proofs.Monotone.{rounded_le}
 use Rattle.float.proofs.Units.{HasUnits, prec_pos}
 use Rattle.float.proofs.CommonUnits.{both_units}
 use Rattle.float.proofs.Finite.{Finite}
-use Rattle.float.proofs.RoundFinite.{round_finite, below_overflow_of}
+use Rattle.float.proofs.RoundFinite.{round_finite}
 
 pub mul_units : {f : Format} {x y : Float} {s t : Bool} {a b : ℕ} → HasUnits f x s a → HasUnits f y t b
     → mul f x y ≡ round f (unlike s t) (a * b) (2 ^ low f * 2 ^ low f)
@@ -29,12 +28,6 @@ module _ {f : Format} {x y : Float} {s t : Bool} {a b : ℕ} (p : Finite f x s a
   pub mul_finite : rounded (prec f) (a * b) (2 ^ low f) < overflow f
       → Finite f (mul f x y) (unlike s t) (rounded (prec f) (a * b) (2 ^ low f))
   mul_finite h = rw (mul_units p.units q.units) (round_finite f (unlike s t) (a * b) (pow_pos (low f)) h)
-
-  -- a finite product has not overflowed
-  pub mul_known : T (finite (mul f x y)) → Finite f (mul f x y) (unlike s t) (rounded (prec f) (a * b) (2 ^ low f))
-  mul_known h =
-      let e = mul_units p.units q.units in
-      mul_finite (below_overflow_of f (a * b) (pow_pos (low f)) (unlike s t) (subst (λ (z : Float). T (finite z)) e h))
 
   -- with a factor of at most 1
   pub mul_shrink : b ≤ 2 ^ low f → Finite f (mul f x y) (unlike s t) (rounded (prec f) (a * b) (2 ^ low f))

@@ -1,20 +1,19 @@
 -- The quotient of two floats, in units: a * 2 ^ low / b units, rounded once.
-use mathlib.Core.Path.{◌≡◌, subst, ◌∙◌}
+use mathlib.Core.Path.{◌≡◌, ◌∙◌}
 use mathlib.Core.Bool.{Bool}
 use Prim.Native.Nat.{ℕ, ◌*◌, ◌^◌, ◌<◌}
 use native.Mathlib.Nat.{mul-pos, mul_comm, mul-mul-mul_comm}
 use native.Mathlib.Omega.{arith}
-use lib.Dec.{T}
 use lib.Pow.{pow_pos}
 use lib.Ieee.{Float, Format, prec, low, up, down, round, div, unlike}
 use lib.Ieee.Fits.{up_pos, down_pos}
-use lib.Ieee.Scale.{finite, round_same, overflow}
+use lib.Ieee.Scale.{round_same, overflow}
 use borrow.Author.Tests.{ne_eqb}
 use Rattle.float.proofs.Rounded.{rounded}
 use Rattle.float.proofs.Units.{HasUnits}
 use Rattle.float.proofs.CommonUnits.{both_units, nonzero}
 use Rattle.float.proofs.Finite.{Finite}
-use Rattle.float.proofs.RoundFinite.{round_finite, below_overflow_of}
+use Rattle.float.proofs.RoundFinite.{round_finite}
 
 pub div_units : {f : Format} {x y : Float} {s t : Bool} {a b : ℕ} → HasUnits f x s a → HasUnits f y t b → 0 < b
     → div f x y ≡ round f (unlike s t) (a * 2 ^ low f) (b * 2 ^ low f)
@@ -36,9 +35,3 @@ div_units {f} {s = s} {t} {a} {b} v w B =
 pub div_finite : {f : Format} {x y : Float} {s t : Bool} {a b : ℕ} → Finite f x s a → Finite f y t b → 0 < b
     → rounded (prec f) (a * 2 ^ low f) b < overflow f → Finite f (div f x y) (unlike s t) (rounded (prec f) (a * 2 ^ low f) b)
 div_finite {f} {s = s} {t} {a} p q B h = rw (div_units p.units q.units B) (round_finite f (unlike s t) (a * 2 ^ low f) B h)
-
--- a finite quotient has not overflowed
-pub div_known : {f : Format} {x y : Float} {s t : Bool} {a b : ℕ} → Finite f x s a → Finite f y t b → 0 < b → T (finite (div f x y))
-    → Finite f (div f x y) (unlike s t) (rounded (prec f) (a * 2 ^ low f) b)
-div_known {f} {s = s} {t} {a} {b} p q B h =
-    div_finite p q B (below_overflow_of f (a * 2 ^ low f) B (unlike s t) (subst (λ (z : Float). T (finite z)) (div_units p.units q.units B) h))

@@ -1,18 +1,18 @@
 -- The sum and the difference of two floats, in units: rounded once, and finite where the rounded number does not overflow.
-use mathlib.Core.Path.{◌≡◌, refl, subst, ◌∙◌}
+use mathlib.Core.Path.{◌≡◌, refl}
 use mathlib.Core.Bool.{Bool, true, false, not, ◌&&◌}
 use Prim.Native.Nat.{ℕ, ◌+◌, ◌-◌, ◌*◌, ◌^◌, ◌≤◌, ◌<◌}
-use native.Mathlib.Nat.{le_refl, one-mul, sub-le}
-use lib.Dec.{T, ltb}
+use native.Mathlib.Nat.{sub-le}
+use lib.Dec.{ltb}
 use lib.Pow.{pow_pos}
 use lib.Ieee.{Float, Format, prec, low, up, down, round, sum, add, sub}
-use lib.Ieee.Scale.{finite, round_same, overflow}
+use lib.Ieee.Scale.{round_same, overflow}
 use borrow.Author.Tests.{lt-ltb, le-ltb}
 use Rattle.float.proofs.Rounded.{rounded_whole}
 use Rattle.float.proofs.Units.{HasUnits}
 use Rattle.float.proofs.CommonUnits.{ltb_common, add_common, sub_common, both_units}
 use Rattle.float.proofs.Finite.{Finite}
-use Rattle.float.proofs.RoundFinite.{round_whole, round_whole_le, below_overflow_of}
+use Rattle.float.proofs.RoundFinite.{round_whole, round_whole_le}
 use Rattle.float.proofs.Negation.{neg_finite}
 
 -- only the values of the two fractions count
@@ -56,12 +56,6 @@ module _ {f : Format} {x y : Float} {s : Bool} {a b : ℕ} (p : Finite f x s a) 
       → Finite f (add f x y) s (rounded_whole (prec f) (a + b))
   add_alike q h = rw (add_units p.units q.units, sum_alike f s a b (2 ^ low f)) (round_whole f s (a + b) h)
 
-  -- a finite one has not overflowed
-  pub add_known : Finite f y s b → T (finite (add f x y)) → Finite f (add f x y) s (rounded_whole (prec f) (a + b))
-  add_known q h =
-      let e : add f x y ≡ round f s (a + b) (1 * 2 ^ low f) = rw one-mul (add_units p.units q.units ∙ sum_alike f s a b (2 ^ low f)) in
-      add_alike q (below_overflow_of f (a + b) (le_refl 1) s (subst (λ (z : Float). T (finite z)) e h))
-
   -- the sum of two of opposite signs has the sign of the larger, and 0 is +0
   pub add_unlike_less : Finite f y (not s) b → a < b → Finite f (add f x y) (not s) (rounded_whole (prec f) (b - a))
   add_unlike_less q h = rw (add_units p.units q.units, sum_less f s (2 ^ low f) h) (round_whole_le (not s) q (sub-le b a))
@@ -78,10 +72,6 @@ module _ {f : Format} {x y : Float} {s : Bool} {a b : ℕ} where
   pub sub_ge : Finite f x s a → Finite f y s b → b ≤ a → Finite f (sub f x y) (s && ltb b a) (rounded_whole (prec f) (a - b))
   unfolding sub
   sub_ge p q h = add_unlike_ge p (neg_finite q) h
-
-  pub sub_known : Finite f x (not s) a → Finite f y s b → T (finite (sub f x y)) → Finite f (sub f x y) (not s) (rounded_whole (prec f) (a + b))
-  unfolding sub
-  sub_known p q h = add_known p (neg_finite q) h
 
   pub sub_unlike : Finite f x (not s) a → Finite f y s b → rounded_whole (prec f) (a + b) < overflow f
       → Finite f (sub f x y) (not s) (rounded_whole (prec f) (a + b))

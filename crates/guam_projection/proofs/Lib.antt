@@ -1,3 +1,2 @@
 mod Rounds
 pub mod NeverZero
-pub mod AngleLimit

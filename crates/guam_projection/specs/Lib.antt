@@ -1,3 +1,2 @@
 pub mod GuamProjection
-pub mod WithoutLimit
 pub mod Opened

@@ -3,3 +3,4 @@ pub mod OnTheMap
 pub mod OffTheMap
 pub mod Opened
 pub mod Cases
+pub mod ClickCases

@@ -1,4 +1,3 @@
-pub mod AngleLimit
 pub mod AsInSource
 pub mod Clicks
 pub mod OffTheMap

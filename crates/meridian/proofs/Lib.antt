@@ -1,4 +1,2 @@
 mod FromEnd
-pub mod ThirdFlattening
 pub mod AsInSource
-pub mod AngleLimit

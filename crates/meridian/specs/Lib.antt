@@ -1,3 +1,2 @@
 pub mod Meridian
-pub mod WithoutLimit
 pub mod Opened

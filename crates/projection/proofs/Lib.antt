@@ -2,12 +2,10 @@ pub mod Refusal
 pub mod AsInSource
 pub mod NeverZero
 pub mod Steps
-pub mod StaysWithin
 pub mod Normalising
 pub mod Normalised
 pub mod NormalisingError
 pub mod OnTheMap
-pub mod AngleLimit
 pub mod OffTheMap
 pub mod InArea
 pub mod SoundArea

@@ -18,7 +18,6 @@ use Rattle.float.proofs.SignedUnits.{units_signed, difference_units, abs_units}
 use Rattle.float.proofs.Finite.{Finite, finite_of, count_representable}
 use Rattle.float.proofs.AbsoluteValue.{abs_finite}
 use Rattle.float.proofs.Comparison.{lt_units}
-use Rattle.float.proofs.Within.{Within}
 use Rattle.float.proofs.IntegerDifference.{difference_of, difference_sub, difference_add, difference_mul, difference_abs}
 use Rattle.trigonometry.specs.Turns.{rem_euclid}
 use Rattle.projection.specs.Bound.{LAT_BOUND}
@@ -81,11 +80,6 @@ near_of {s} {M} {x} h w b =
       difference_abs (difference_sub (difference_add (difference_units h.units) turns) (difference_units w.result.units))
           c.near.over c.near.under,
     )
-
--- what normalising gives is at most π in size
-pub normalised_within : {s : Bool} {M : ℕ} {raw : Float} → Finite binary64 raw s M → Within binary64 (unit_count binary64 PI) (normalize_longitude raw)
-unfolding P normalize_longitude eastern rem_euclid
-normalised_within h = let w = run circle h in record { sign = _; count = _; is = w.result; most = good_le (good circle w) }
 
 lat_le : {s : Bool} {a : ℕ} {lat : Float} → Finite binary64 lat s a → LAT_BOUND ≺ abs lat ≡ false
     → unit_count binary64 lat ≤ unit_count binary64 LAT_BOUND

@@ -9,6 +9,5 @@ pub mod OnTheMap
 pub mod AreaOfUse
 pub mod InArea
 pub mod Iteration
-pub mod StaysWithin
 pub mod Opened
 pub mod AreaCases

@@ -1,5 +1,6 @@
 mod NestedSteps
-pub mod TurningSum
+pub mod NestedSize
+pub mod FactorialSize
 pub mod FallingSum
 pub mod Alternating
 mod FactorialTable

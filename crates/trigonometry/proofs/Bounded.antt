@@ -1,113 +1,151 @@
--- No sine and no cosine is above 1 in size: 01's S is no larger than r, and its C lies between 0 and 1.
-use mathlib.Core.Path.{◌≡◌, refl, sym, subst}
-use mathlib.Core.Bool.{Bool, true, false, not, cond}
+-- The sine and the cosine of every finite number are finite: each step of the reduction and of the sums has a bound, and none comes near the overflow.
+use mathlib.Core.Path.{◌≡◌, refl, sym, ◌∙◌}
+use mathlib.Core.Bool.{Bool, true, false, cond}
 use mathlib.Core.List.{[], ◌∷◌}
-use Prim.Native.Nat.{ℕ, zero, suc, ◌%◌, ◌^◌, ◌≤◌, ◌<◌}
-use native.Mathlib.Nat.{le_refl, le_trans, mul-le-mul_left, sub-le}
+use Prim.Native.Nat.{ℕ, zero, suc, ◌+◌, ◌%◌, ◌^◌, ◌≤◌, ◌<◌}
+use native.Mathlib.Nat.{le_trans, le_of_lt, mod-lt}
 use native.Mathlib.Omega.{arith}
+use borrow.Author.Tests.{ltb-false}
+use lib.IntN.{pos}
 use lib.Dec.{T, lit≤, lit<}
 use lib.ListN.{get_or}
-use lib.Ieee.{Float, nan, binary64, fits, neg, unlike}
+use lib.Ieee.{Float, nan, binary64, fits, neg, of_int}
 use lib.Ieee.Scale.{finite}
-use Rattle.float.specs.Operators.{◌⊕◌, ◌⊗◌}
-use Rattle.float.specs.Constants.{one}
-use Rattle.float.specs.Sign.{negative}
-use Rattle.float.proofs.Monotone.{rounded_le, whole_le}
+use Rattle.float.specs.Operators.{◌⊗◌, ◌fmod◌, ◌≺◌}
+use Rattle.float.specs.Constants.{one, three, FRAC_PI_2, FRAC_PI_4, LO, TURN}
+use Rattle.float.specs.Sign.{negative, abs}
+use Rattle.float.specs.Units.{unit_count}
 use Rattle.float.proofs.Finite.{Finite, finite_of}
-use Rattle.float.proofs.Product.{mul_shrink}
-use Rattle.float.proofs.Sum.{add_unlike_ge}
-use Rattle.float.proofs.UpTo.{UpTo}
-use Rattle.float.proofs.Within.{Within, within_more, within_neg, within_signed}
-use Rattle.sums.proofs.TurningSum.{Signed, sine_terms_sum, cosine_terms_sum}
-use Rattle.trigonometry.specs.Trigonometry.{sine_sum, cosine_sum, by_quarter, sine_at, cosine_at, quarters_of, rest_of, reduced_sine, reduced_cosine, within_limit, sine, cosine}
+use Rattle.float.proofs.AbsoluteValue.{abs_finite}
+use Rattle.float.proofs.Remainder.{rem_finite}
+use Rattle.float.proofs.Comparison.{lt_units}
+use Rattle.float.proofs.AtMost.{AtMost, at_most_finite, at_most_of, at_most_more, neg_at_most, mul_at_most, add_at_most, sub_at_most}
+use Rattle.sums.specs.Counting.{bit}
+use Rattle.sums.specs.Factorials.{factorial_terms}
+use Rattle.sums.proofs.NestedSize.{nested_small}
+use Rattle.sums.proofs.FactorialSize.{terms_small}
+use Rattle.trigonometry.specs.Trigonometry.{five, seven, within_turn, quarters, rest, sine_sum, cosine_sum, by_quarter, sine_at, cosine_at, quarters_of, rest_of, sine, cosine}
 use Rattle.trigonometry.specs.Opened.{opened}
-use Rattle.trigonometry.proofs.Reduction.{rest_of_within}
-use Rattle.trigonometry.proofs.Limit.{within_is_finite}
+use Rattle.trigonometry.proofs.OwnRemainder.{turn_is}
 
-one_is : Finite binary64 one false (2 ^ 1074)
+-- ---- constants, by computation
+turn_below_8 : (0 < unit_count binary64 TURN) × (unit_count binary64 TURN ≤ 2 ^ (1074 + 3))
 unfolding opened fits
-one_is = finite_of binary64 one tt tt
+turn_below_8 = (lit< tt, lit≤ tt)
+
+half_pi : AtMost binary64 1 FRAC_PI_2
+unfolding opened fits
+half_pi = at_most_of binary64 1 FRAC_PI_2 tt tt (lit≤ tt)
+
+low_word : AtMost binary64 0 LO
+unfolding opened fits
+low_word = at_most_of binary64 0 LO tt tt (lit≤ tt)
+
+one_is : AtMost binary64 0 one
+unfolding opened fits
+one_is = at_most_of binary64 0 one tt tt (lit≤ tt)
+
+integer : (k : ℕ) → k < 5 → AtMost binary64 2 (of_int binary64 (pos k))
+unfolding opened fits
+integer zero h = at_most_of binary64 2 _ tt tt (lit≤ tt)
+integer (suc zero) h = at_most_of binary64 2 _ tt tt (lit≤ tt)
+integer (suc (suc zero)) h = at_most_of binary64 2 _ tt tt (lit≤ tt)
+integer (suc (suc (suc zero))) h = at_most_of binary64 2 _ tt tt (lit≤ tt)
+integer (suc (suc (suc (suc zero)))) h = at_most_of binary64 2 _ tt tt (lit≤ tt)
+integer (suc (suc (suc (suc (suc k))))) h = absurd (omega arith)
+
+-- ---- the reduction
+bit_le : (b : Bool) → bit b ≤ 1
+bit_le true = lit≤ tt
+bit_le false = lit≤ tt
+
+four_bits : (a b c d : Bool) → bit a + bit b + bit c + bit d < 5
+four_bits a b c d = omega (arith, bit_le a, bit_le b, bit_le c, bit_le d)
+
+quarters_below : (z : Float) → quarters z < 5
+unfolding quarters
+quarters_below z = four_bits (FRAC_PI_4 ≺ z) (three ⊗ FRAC_PI_4 ≺ z) (five ⊗ FRAC_PI_4 ≺ z) (seven ⊗ FRAC_PI_4 ≺ z)
+
+turned : (z : Float) {a : ℕ} → Finite binary64 z false a → AtMost binary64 3 (within_turn z)
+unfolding within_turn
+turned z {a} p = go (TURN ≺ z) refl
+  where
+    go : (b : Bool) → (TURN ≺ z) ≡ b → AtMost binary64 3 (cond b (z fmod TURN) z)
+    go true h = record {
+      sign = false;
+      count = a % unit_count binary64 TURN;
+      is = rem_finite p turn_is turn_below_8.0;
+      most = le_trans (le_of_lt (mod-lt a turn_below_8.0)) turn_below_8.1;
+    }
+    go false h = record {
+      sign = false;
+      count = a;
+      is = p;
+      most = le_trans (ltb-false (unit_count binary64 TURN) a (sym (lt_units turn_is.units p.units) ∙ h)) turn_below_8.1;
+    }
+
+rest_at_most : (z : Float) (k : ℕ) → AtMost binary64 3 z → k < 5 → AtMost binary64 5 (rest z k)
+unfolding rest
+rest_at_most z k p h =
+    let n = integer k h in
+    sub_at_most binary64 4 (lit≤ tt) (sub_at_most binary64 3 (lit≤ tt) p (mul_at_most n half_pi (lit≤ tt))) (at_most_more (lit≤ tt) (mul_at_most n low_word (lit≤ tt)))
 
 -- ---- the sums
-unlike_self : (s : Bool) → unlike s s ≡ false
-unlike_self true = refl
-unlike_self false = refl
+module _ (r : Float) (p : AtMost binary64 5 r) where
+  square : AtMost binary64 10 (r ⊗ r)
+  square = mul_at_most p p (lit≤ tt)
 
-unlike_true : (s : Bool) → unlike s true ≡ not s
-unlike_true true = refl
-unlike_true false = refl
+  sine_sum_at_most : AtMost binary64 104 (sine_sum r)
+  unfolding sine_sum factorial_terms
+  sine_sum_at_most =
+      let sum = nested_small square (terms_small 3) (lit≤ tt) in
+      add_at_most binary64 103 (lit≤ tt) (at_most_more (lit≤ tt) p) (mul_at_most (mul_at_most p square (lit≤ tt)) sum (lit≤ tt))
 
-unlike_false : (s : Bool) → unlike s false ≡ s
-unlike_false true = refl
-unlike_false false = refl
+  cosine_sum_at_most : AtMost binary64 104 (cosine_sum r)
+  unfolding cosine_sum factorial_terms
+  cosine_sum_at_most =
+      let sum = nested_small square (terms_small 2) (lit≤ tt) in
+      at_most_more (lit≤ tt) (add_at_most binary64 98 (lit≤ tt) (at_most_more (lit≤ tt) one_is) (mul_at_most square sum (lit≤ tt)))
 
--- a product with a factor of at most 1 is no larger
-shrunk : {s t : Bool} {m : ℕ} {x y : Float} → Signed s m x → Signed t (2 ^ 1074) y → Signed (unlike s t) m (x ⊗ y)
-shrunk p q = record {
-  count = _;
-  is = mul_shrink p.is q.is q.most;
-  most = le_trans (rounded_le (lit< tt) (lit< tt) p.is.representable (mul-le-mul_left p.count q.most)) p.most;
-}
-
--- one of the other sign that is no larger takes nothing beyond 0
-lessened : {s : Bool} {n : ℕ} {x y : Float} → Finite binary64 x s n → Signed (not s) n y → Within binary64 n (x ⊕ y)
-lessened {n = n} p q = record { sign = _; count = _; is = add_unlike_ge p q.is q.most; most = whole_le (lit< tt) p.representable (sub-le n q.count) }
-
-module _ (r : Float) {s : Bool} {a : ℕ} (p : Finite binary64 r s a) (small : a ≤ 2 ^ 1074) where
-  -- r is a units, and at most 1
-  itself : Signed s a r
-  itself = record { count = a; is = p; most = le_refl a }
-
-  square : UpTo binary64 (2 ^ 1074) (r ⊗ r)
-  square = let q = shrunk itself (record { count = a; is = p; most = small }) in record { count = q.count; is = rw (unlike_self s) at q.is; most = le_trans q.most small }
-
-  w : Signed false (2 ^ 1074) (r ⊗ r)
-  w = record { count = square.count; is = square.is; most = square.most }
-
-  sine_sum_within : Within binary64 a (sine_sum r)
-  unfolding sine_sum
-  sine_sum_within =
-      let cube = rw (unlike_false s) at (shrunk itself w) in
-      lessened p (rw (unlike_true s) at (shrunk cube (sine_terms_sum square)))
-
-  cosine_sum_within : Within binary64 (2 ^ 1074) (cosine_sum r)
-  unfolding cosine_sum
-  cosine_sum_within = lessened one_is (shrunk w (cosine_terms_sum square))
-
--- ---- the one of four that stands at n
-pick_within : (n : ℕ) {m : ℕ} {a b c d : Float} → n < 4 → Within binary64 m a → Within binary64 m b → Within binary64 m c → Within binary64 m d
-    → Within binary64 m (get_or (a ∷ b ∷ c ∷ d ∷ []) n nan)
-pick_within zero h p q r s = p
-pick_within (suc zero) h p q r s = q
-pick_within (suc (suc zero)) h p q r s = r
-pick_within (suc (suc (suc zero))) h p q r s = s
-pick_within (suc (suc (suc (suc n)))) h p q r s = absurd (omega arith)
+-- the one of four that stands at n
+pick_at_most : (n : ℕ) {a b c d : Float} → n < 4 → AtMost binary64 104 a → AtMost binary64 104 b → AtMost binary64 104 c → AtMost binary64 104 d
+    → AtMost binary64 104 (get_or (a ∷ b ∷ c ∷ d ∷ []) n nan)
+pick_at_most zero h p q r s = p
+pick_at_most (suc zero) h p q r s = q
+pick_at_most (suc (suc zero)) h p q r s = r
+pick_at_most (suc (suc (suc zero))) h p q r s = s
+pick_at_most (suc (suc (suc (suc n)))) h p q r s = absurd (omega arith)
 
 -- ---- a finite number
+of_number : (b : Bool) → T b → {k : ℕ} {y : Float} → AtMost binary64 k y → T (finite (cond b y nan))
+of_number true t p = at_most_finite p
+of_number false t p = absurd t
+
+signed_at_most : (b : Bool) {k : ℕ} {y : Float} → AtMost binary64 k y → AtMost binary64 k (cond b (neg y) y)
+signed_at_most true p = neg_at_most p
+signed_at_most false p = p
+
 module _ (x : Float) (held : T (fits binary64 x)) (number : T (finite x)) where
-  sums : Within binary64 (2 ^ 1074) (sine_sum (rest_of x)) × Within binary64 (2 ^ 1074) (cosine_sum (rest_of x))
-  sums =
-      let r = rest_of_within x held number in
-      let small = le_trans r.most (lit≤ tt) in
-      (within_more small (sine_sum_within (rest_of x) r.is small), cosine_sum_within (rest_of x) r.is small)
+  rest_of_at_most : AtMost binary64 5 (rest_of x)
+  unfolding rest_of
+  rest_of_at_most =
+      let z = within_turn (abs x) in
+      rest_at_most z (quarters z) (turned (abs x) (abs_finite (finite_of binary64 x held number))) (quarters_below z)
 
-  pub reduced_sine_within : Within binary64 (2 ^ 1074) (reduced_sine x)
-  unfolding reduced_sine sine_at
-  reduced_sine_within = let (s, c) = sums in within_signed (negative x) (pick_within (quarters_of x % 4) (omega arith) s c (within_neg s) (within_neg c))
+  by_quarters : {a b c d : Float} → AtMost binary64 104 a → AtMost binary64 104 b → AtMost binary64 104 c → AtMost binary64 104 d
+      → AtMost binary64 104 (by_quarter (quarters_of x) a b c d)
+  by_quarters p q r s = pick_at_most (quarters_of x % 4) (omega arith) p q r s
 
-  pub reduced_cosine_within : Within binary64 (2 ^ 1074) (reduced_cosine x)
-  unfolding reduced_cosine cosine_at
-  reduced_cosine_within = let (s, c) = sums in pick_within (quarters_of x % 4) (omega arith) c (within_neg s) (within_neg c) s
+  pub sine_finite : T (finite (sine x))
+  unfolding sine sine_at
+  sine_finite =
+      let s = sine_sum_at_most (rest_of x) rest_of_at_most in
+      let c = cosine_sum_at_most (rest_of x) rest_of_at_most in
+      of_number (finite x) number (signed_at_most (negative x) (by_quarters s c (neg_at_most s) (neg_at_most c)))
 
--- ---- a number within the limit
-chosen : (b : Bool) → b ≡ true → {y : Float} → Within binary64 (2 ^ 1074) y → Within binary64 (2 ^ 1074) (cond b y nan)
-chosen b e p = rw e p
-
-module _ (x : Float) (held : T (fits binary64 x)) (within : within_limit x ≡ true) where
-  pub sine_within : Within binary64 (2 ^ 1074) (sine x)
-  unfolding sine
-  sine_within = chosen (within_limit x) within (reduced_sine_within x held (subst T (sym (within_is_finite x within)) tt))
-
-  pub cosine_within : Within binary64 (2 ^ 1074) (cosine x)
-  unfolding cosine
-  cosine_within = chosen (within_limit x) within (reduced_cosine_within x held (subst T (sym (within_is_finite x within)) tt))
+  pub cosine_finite : T (finite (cosine x))
+  unfolding cosine cosine_at
+  cosine_finite =
+      let s = sine_sum_at_most (rest_of x) rest_of_at_most in
+      let c = cosine_sum_at_most (rest_of x) rest_of_at_most in
+      of_number (finite x) number (by_quarters c (neg_at_most s) (neg_at_most c) s)

@@ -5,6 +5,6 @@ use Rattle.trigonometry.specs.Turns as turns
 
 unfoldable pub opened : Unit {0}
 unfolding sums_below.opened trigonometry.within_turn trigonometry.quarters trigonometry.rest trigonometry.sine_sum trigonometry.cosine_sum
-    trigonometry.sine_at trigonometry.cosine_at trigonometry.quarters_of trigonometry.rest_of trigonometry.reduced_sine
-    trigonometry.reduced_cosine trigonometry.within_limit trigonometry.sine trigonometry.cosine trigonometry.tangent turns.rem_euclid
+    trigonometry.sine_at trigonometry.cosine_at trigonometry.quarters_of trigonometry.rest_of trigonometry.sine trigonometry.cosine
+    trigonometry.tangent turns.rem_euclid
 opened = tt

@@ -1,9 +1,9 @@
 -- Sine, cosine and tangent (document 01, Fixed functions): the exact remainder takes off whole turns, quarter turns are counted, and two nested sums do the rest.
--- Beyond document 02's limit there is none (Q-9).
-use Rattle.std.specs.Prelude.{◌≡◌, refl, Bool, false, cond, [], ◌∷◌, ℕ, ◌+◌, ◌*◌, ◌%◌, pos, negsuc, get_or, Float}
+use Rattle.std.specs.Prelude.{◌≡◌, refl, false, cond, [], ◌∷◌, ℕ, ◌+◌, ◌*◌, ◌%◌, pos, negsuc, get_or, Float}
 use Rattle.std.specs.Float.{nan, fin, binary64}
 use Rattle.std.specs.Float.Ieee.{neg, mul, round, of_bits, of_int}
-use Rattle.float.specs.Operators.{◌⊕◌, ◌⊖◌, ◌⊗◌, ◌⊘◌, ◌fmod◌, ◌≺◌, ◌≼◌, f64}
+use Rattle.std.specs.Float.Ieee.Scale.{finite}
+use Rattle.float.specs.Operators.{◌⊕◌, ◌⊖◌, ◌⊗◌, ◌⊘◌, ◌fmod◌, ◌≺◌, f64}
 use Rattle.float.specs.Constants.{one, three, FRAC_PI_2, FRAC_PI_4, LO, TURN, ratio}
 use Rattle.float.specs.Sign.{negative, abs}
 use Rattle.sums.specs.Counting.{bit}
@@ -54,26 +54,12 @@ quarters_of x = quarters (within_turn (abs x))
 unfoldable pub rest_of : Float → Float
 rest_of x = let z = within_turn (abs x) in rest z (quarters z)
 
--- 01's sine and cosine of a finite x of any size; sine is negated where x's sign bit is set
-unfoldable pub reduced_sine : Float → Float
-reduced_sine x = let s = sine_at (quarters_of x) (rest_of x) in cond (negative x) (neg s) s
-
-unfoldable pub reduced_cosine : Float → Float
-reduced_cosine x = cosine_at (quarters_of x) (rest_of x)
-
--- 02's limit, 1,048,576: for larger arguments the reduction by the stored turn drifts
-abbrev pub ANGLE_LIMIT : Float
-ANGLE_LIMIT = f64 0x4130000000000000
-
--- x is at most the limit in size; a NaN is not, and no infinity is
-unfoldable pub within_limit : Float → Bool
-within_limit x = abs x ≼ ANGLE_LIMIT
-
+-- a number that is not finite gives NaN; sine is negated where x's sign bit is set
 unfoldable pub sine : Float → Float
-sine x = cond (within_limit x) (reduced_sine x) nan
+sine x = let s = sine_at (quarters_of x) (rest_of x) in cond (finite x) (cond (negative x) (neg s) s) nan
 
 unfoldable pub cosine : Float → Float
-cosine x = cond (within_limit x) (reduced_cosine x) nan
+cosine x = cond (finite x) (cosine_at (quarters_of x) (rest_of x)) nan
 
 unfoldable pub tangent : Float → Float
 tangent x = sine x ⊘ cosine x
@@ -82,11 +68,11 @@ tangent x = sine x ⊘ cosine x
 abbrev digits : ℕ
 digits = 0x3243f6a8885a3
 
--- `five`, `seven` and the limit are 5, 7 and 1,048,576, and the products of `quarters` and of `rest` are exact: `fin false m e` is m×2^e, with an odd m
+-- `five` and `seven` are 5 and 7, and the products of `quarters` and of `rest` are exact: `fin false m e` is m×2^e, with an odd m
 pub exact_products :
-    (five ∷ seven ∷ ANGLE_LIMIT ∷ FRAC_PI_4 ∷ three ⊗ FRAC_PI_4 ∷ five ⊗ FRAC_PI_4 ∷ seven ⊗ FRAC_PI_4
+    (five ∷ seven ∷ FRAC_PI_4 ∷ three ⊗ FRAC_PI_4 ∷ five ⊗ FRAC_PI_4 ∷ seven ⊗ FRAC_PI_4
     ∷ FRAC_PI_2 ∷ of_int binary64 (pos 2) ⊗ FRAC_PI_2 ∷ of_int binary64 (pos 3) ⊗ FRAC_PI_2 ∷ of_int binary64 (pos 4) ⊗ FRAC_PI_2 ∷ [])
-    ≡ (ratio 5 1 ∷ ratio 7 1 ∷ ratio 1048576 1
+    ≡ (ratio 5 1 ∷ ratio 7 1
     ∷ fin false digits (negsuc 49) ∷ fin false (3 * digits) (negsuc 49) ∷ fin false (5 * digits) (negsuc 49) ∷ fin false (7 * digits) (negsuc 49)
     ∷ fin false digits (negsuc 48) ∷ fin false digits (negsuc 47) ∷ fin false (3 * digits) (negsuc 48) ∷ fin false digits (negsuc 46) ∷ [])
 unfolding of_bits round mul of_int

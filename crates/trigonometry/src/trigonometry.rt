@@ -1,7 +1,7 @@
 ghost use Rattle.std.specs.Prelude.{◌≡◌, cond, ◌+◌, ◌*◌, ◌≤◌};
-ghost use Rattle.trigonometry.specs.Trigonometry.{within_turn, quarters, rest, sine_sum, cosine_sum, sine_at, quarters_of, rest_of, within_limit, sine, cosine, tangent};
+ghost use Rattle.trigonometry.specs.Trigonometry.{within_turn, quarters, rest, sine_sum, cosine_sum, sine_at, quarters_of, rest_of, sine, cosine, tangent};
 
-use float::{FRAC_PI_2, FRAC_PI_4, LO, TURN, abs, is_negative, nan, pick};
+use float::{FRAC_PI_2, FRAC_PI_4, LO, TURN, abs, is_finite, is_negative, nan, pick};
 use sums::{bit, factorial_sum};
 
 fn within_turn(z: f64) -> f64
@@ -69,20 +69,10 @@ fn reduced(x: f64) -> Angle
     Angle { k, r }
 }
 
-// Document 02's limit: for larger arguments the reduction by the stored turn drifts.
-const ANGLE_LIMIT: f64 = 1048576.0;
-
-// Whether x is at most the limit in size. A NaN is not, and no infinity is.
-fn within_limit(x: f64) -> bool
-    ensures { result ≡ within_limit x }
-{
-    abs(x) <= ANGLE_LIMIT
-}
-
 pub fn sin(x: f64) -> f64
     ensures { result ≡ sine x }
 {
-    if within_limit(x) {
+    if is_finite(x) {
         let q = reduced(x);
         let s = sine_at(q.k, q.r);
         pick(is_negative(x), -s, s)
@@ -95,7 +85,7 @@ pub fn sin(x: f64) -> f64
 pub fn cos(x: f64) -> f64
     ensures { result ≡ cosine x }
 {
-    if within_limit(x) {
+    if is_finite(x) {
         let q = reduced(x);
         sine_at(q.k + 1, q.r)
     } else {
@@ -128,7 +118,7 @@ fn turned(k: u32, half: u32, r: f64) -> SinCos
 pub fn sin_cos(x: f64) -> SinCos
     ensures { (result.sin ≡ sine x) × (result.cos ≡ cosine x) }
 {
-    if within_limit(x) {
+    if is_finite(x) {
         let q = reduced(x);
         turned(q.k, bit(is_negative(x)), q.r)
     } else {

@@ -1,8 +1,7 @@
 //! Writes the answers that crates/replay replays, of 01's functions, of the source with these, and of
 //! 02: of functions, of the ellipsoid's numbers, constructors and names, of value lines of each kind,
-//! with Albers on a sphere and its rounds and the limit on angles, of such lines with an area of use, of
-//! rings, of nearest schools, of Albers inverses with numbers handed in, of the second inverse, and of
-//! travel charges.
+//! with Albers on a sphere and its rounds, of such lines with an area of use, of rings, of nearest
+//! schools, of Albers inverses with numbers handed in, of the second inverse, and of travel charges.
 
 use oracle::area::{self, Rule as _};
 use oracle::area_sample::area_sample;
@@ -12,7 +11,6 @@ use oracle::charge_sample::charge_sample;
 use oracle::ellipsoids::{CONSTRUCTORS, Constructor, NAMED, named_arguments};
 use oracle::expected::answer;
 use oracle::functions::{Arguments, ELLIPSOID, FUNCTIONS, Function, Takes};
-use oracle::limit_sample::limit_sample;
 use oracle::line::{KINDS, Line, WAYS};
 use oracle::lines::{Lines, Sort};
 use oracle::nearest::{self, Rule as _};
@@ -99,13 +97,7 @@ fn of_kind(way: u8, kind: u8) -> Vec<Stored> {
         answer: answer(&line).text(),
         why,
     };
-    let about = limit_sample(way, kind);
-    others
-        .chain(sharp)
-        .chain(of_02)
-        .chain(about)
-        .map(stored)
-        .collect()
+    others.chain(sharp).chain(of_02).map(stored).collect()
 }
 
 fn with_area() -> impl Iterator<Item = Stored> {

@@ -1,2 +1,0 @@
-pub mod Clicks
-pub mod Limit
