@@ -1,4 +1,6 @@
 // What f64 needs and Rattle lacks. Every function takes every pattern.
+#![tactic(auto)]
+
 mod bits;
 mod choice;
 mod constants;

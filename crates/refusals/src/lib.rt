@@ -1,4 +1,5 @@
 // The refusal numbers, by name: docs/refusals.txt has the list. Each comes where the comment says, the first that applies.
+#![tactic(auto)]
 
 // The sheet has more than 65,536 bytes.
 pub const SHEET_SIZE: u8 = 1;
