@@ -2,7 +2,7 @@
 use Rattle.std.proofs.Common.{◌≡◌, ℕ, suc, ◌+◌, ◌-◌, ◌*◌, ◌/◌, ◌%◌, ◌^◌, ◌<◌, ◌≤◌, false, not, T, ltb, sym, inl, inr, le_of_eq, lt_of_lt_of_le, lt_of_le_of_lt, mul-le-mul_right, mul_assoc, le_antisymm, eq-or-lt_of_le, not-le_of_lt, mul-div_cancel, arith, lit<, ltb→lt, pow_pos, pow_mono, pow-add, shl_lt}
 use native.Mathlib.Nat.{pow-succ'}
 use lib.Dec.{not_T}
-use lib.Ieee.{Float, fin, binary64, size, odd, inf, units, fits, to_bits, of_bits, nan_bits}
+use lib.Ieee.{Float, nan, inf, fin, binary64, size, odd, inf, units, fits, to_bits, of_bits, nan_bits}
 use lib.Ieee.Digits.{size-lt, size-le}
 use lib.Ieee.Fits.{odd-fits, cond-fits, inf-fits}
 use lib.Ieee.Bits.{of_bits-to_bits, nan_bits_above}
@@ -24,6 +24,8 @@ unfolding to_bits unit_count negative
 bits_of_units {x} {a} v = go x v.value (units_sign v) (units_count v)
   where
     go : (x : Float) → HasValue x false a (2 ^ 1074) → negative x ≡ false → unit_count binary64 x ≡ a → to_bits binary64 x ≡ (size a - 53) * 2 ^ 52 + a / 2 ^ (size a - 53)
+    go nan v n h = elim v [ ]
+    go (inf _) v n h = elim v [ ]
     go (fin s m e) v n h = rw (n, h) (omega arith)
 
 packed_bits : (q k : ℕ) → 2 ^ 52 ≤ q → q ≤ 2 ^ 53 → (size (q * 2 ^ k) - 53) * 2 ^ 52 + q * 2 ^ k / 2 ^ (size (q * 2 ^ k) - 53) ≡ k * 2 ^ 52 + q

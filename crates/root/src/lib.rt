@@ -1,4 +1,6 @@
 // The square root of an f64, rounded to nearest.
+#![tactic(auto)]
+
 mod digits;
 mod guess;
 mod near;

@@ -771,4 +771,4 @@ returns-in-254 c = sym (ap constant c.in-254.is)
 
 pub returns-in_default : goal.returns-in_default
 unfolding constant last_entry
-returns-in_default c = sym (other_key c.args.k 64 CONSTANT_TABLE c.in_default.rest)
+returns-in_default c = sym (other_key c.args.k 64 CONSTANT_TABLE c.in_default.in_default-own.rest)

@@ -4,12 +4,11 @@ use lib.Ieee.{Float}
 use Rattle.float.specs.Operators.{◌⊕◌, ◌⊗◌}
 use Rattle.root.specs.Root.{root}
 use Rattle.root.specs.Plane.{distance}
-use Rattle.root.proofs.plane.distance.Statement.{statement}
-use Rattle.root.proofs.plane.distance.Tie as tie
+use Rattle.root.proofs.plane.distance.Goals as goal
 
 is_distance : (dx dy : Float) {r : Float} → r ≡ root (dx ⊗ dx ⊕ dy ⊗ dy) → r ≡ distance dx dy
 unfolding distance
 is_distance dx dy h = h
 
-pub distance_spec : {M : Type 1} → statement M
-distance_spec = tie.close (tie.spec (λ c κs. tt) (λ c. is_distance c.before.args.dx c.before.args.dy c.root.ensures))
+pub returns : goal.returns
+returns c = is_distance c.args.dx c.args.dy c.root.ensures
