@@ -1,4 +1,6 @@
 // The authalic latitude, shared by the equal-area kinds L, S and E.
+#![tactic(auto)]
+
 ghost use Rattle.std.specs.Prelude.{◌≡◌};
 ghost use Rattle.authalic.specs.Authalic.{ellipsoidal_q, authalic_q, authalic_latitude, authalic_series, geodetic_from_authalic, spherical};
 

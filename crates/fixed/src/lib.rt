@@ -1,4 +1,6 @@
 // Document 01's other fixed functions: arctangent, arcsine, atan2, ln, and the power 3/2. Every function takes every pattern.
+#![tactic(auto)]
+
 mod arctangent;
 mod logarithm;
 mod powers;

@@ -1,2 +1,3 @@
 mod FromEnd
 pub mod AsInSource
+mod RowByRow

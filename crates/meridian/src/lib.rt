@@ -1,4 +1,6 @@
 // The meridian arc and its inverse: series to the sixth order in the third flattening n.
+#![tactic(auto)]
+
 ghost use Rattle.std.specs.Prelude.{◌≡◌};
 ghost use Rattle.meridian.specs.Meridian.{polyval, clenshaw, meridian_arc_coefficients, meridian_arc, inverse_meridian_arc};
 

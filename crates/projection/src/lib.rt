@@ -1,4 +1,6 @@
 // What every projection shares: the part of the source's mod.rs that the seven kinds use.
+#![tactic(auto)]
+
 mod area_of_use;
 mod bound;
 mod checks;

@@ -1,4 +1,6 @@
 // Nested sums, and document 01's coefficients for them: inverse factorials, and inverses of odd numbers.
+#![tactic(auto)]
+
 mod counting;
 mod factorials;
 mod inverse_odds;

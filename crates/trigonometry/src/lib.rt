@@ -1,4 +1,6 @@
 // Document 01's sine, cosine and tangent, and what brings an angle into one turn.
+#![tactic(auto)]
+
 mod trigonometry;
 mod turns;
 

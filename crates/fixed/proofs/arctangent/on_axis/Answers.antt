@@ -1,0 +1,7 @@
+-- The operations are the definition's, in its order.
+use Rattle.fixed.specs.Arctangent.{on_axis}
+use Rattle.fixed.proofs.arctangent.on_axis.Goals as goal
+
+pub returns : goal.returns
+unfolding on_axis
+returns c = rw (← c.is_finite.ensures, ← c.is_finite-2.ensures)

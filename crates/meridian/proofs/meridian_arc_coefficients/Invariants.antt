@@ -1,0 +1,19 @@
+-- Each turn stores one row of both tables, as `fill` does, and six turns of `fill` compute to the definition.
+use Prim.Native.Nat.{ℕ, zero, suc, ◌≤◌, ◌<◌, ◌-◌, ◌+◌, ◌/◌}
+use mathlib.Core.Path.{◌≡◌, refl, sym, ◌∙◌}
+use mathlib.Core.List.{List, ◌∷◌}
+use native.Mathlib.Omega.{arith}
+use borrow.Author.Rules.{rules}
+use lib.ListN.{length, take, drop, set, replicate, length-set}
+use lib.Ieee.{Float}
+use Rattle.float.specs.Operators.{◌⊗◌}
+use Rattle.float.specs.Constants.{+0}
+use Rattle.meridian.specs.Meridian.{polyval, COEFF_MU_PHI, COEFF_PHI_MU, arc_factor, rows, sine_coefficients, third_flattening, coefficients, meridian_arc_coefficients}
+use Rattle.meridian.proofs.RowByRow.{room, fill}
+use Rattle.meridian.proofs.meridian_arc_coefficients.Given as goal
+
+abbrev pub invariant-loop-l : goal.invariant-loop-l
+invariant-loop-l l = (l.l ≤ 6) × (length l.en ≡ 13) × (l.o + room (6 - l.l) ≡ 12) × (l.o + (7 - l.l) / 2 ≤ 12) × (fill l.n (6 - l.l) l.l l.o l.d l.en ≡ coefficients l.n)
+
+abbrev pub decreases-loop-l : goal.decreases-loop-l
+decreases-loop-l l = 6 - l.l
