@@ -1,4 +1,6 @@
 // Albers Equal Area (EPSG method 9822): the source's albers_equal_area.rs, and on a sphere, where e2 is 0, Snyder's formulas in its place.
+#![tactic(auto)]
+
 ghost use Rattle.std.specs.Prelude.{◌≡◌};
 ghost use Rattle.albers_equal_area.specs.Parallels.{cone_constant};
 ghost use Rattle.albers_equal_area.specs.OnEllipsoid.{m_func, q_func, ellipsoid_cone};
@@ -17,7 +19,7 @@ use root::root;
 use sphere::is_sphere;
 use trigonometry::{sin, sin_cos};
 
-#[derive(Drop)]
+#[derive(Clone, Copy)]
 pub struct AlbersEqualArea {
     pub a: f64,
     pub e: f64,
@@ -32,14 +34,14 @@ pub struct AlbersEqualArea {
     pub false_northing: f64,
 }
 
-#[derive(Drop)]
+#[derive(Clone, Copy)]
 pub enum BuiltAlbersEqualArea {
     Built(AlbersEqualArea),
     Refused(u8),
 }
 
 // What the latitude settings give: n, C, and the q of the origin.
-#[derive(Drop)]
+#[derive(Clone, Copy)]
 struct Cone {
     n: f64,
     c: f64,

@@ -12,7 +12,7 @@ use meridian::{meridian_arc, meridian_arc_coefficients};
 use projection::validate_settings;
 use trigonometry::sin_cos;
 
-#[derive(Drop)]
+#[derive(Clone, Copy)]
 pub struct AmericanPolyconic {
     pub a: f64,
     pub e2: f64,
@@ -24,14 +24,14 @@ pub struct AmericanPolyconic {
     pub ml0: f64,
 }
 
-#[derive(Drop)]
+#[derive(Clone, Copy)]
 pub enum BuiltAmericanPolyconic {
     Built(AmericanPolyconic),
     Refused(u8),
 }
 
 // The constructor's answer, and beside it the meridian numbers.
-#[derive(Drop)]
+#[derive(Clone, Copy)]
 pub struct NewAmericanPolyconic {
     pub built: BuiltAmericanPolyconic,
     pub en: [f64; 13],

@@ -4,7 +4,7 @@ ghost use Rattle.cassini_soldner.specs.Arc.{arc_coefficients, meridional_arc, fo
 
 use trigonometry::sin;
 
-#[derive(Drop)]
+#[derive(Clone, Copy)]
 pub struct ArcCoefficients {
     pub coeff0: f64,
     pub coeff2: f64,
@@ -12,7 +12,7 @@ pub struct ArcCoefficients {
     pub coeff6: f64,
 }
 
-#[derive(Drop)]
+#[derive(Clone, Copy)]
 pub struct FootpointCoefficients {
     pub coeff2: f64,
     pub coeff4: f64,

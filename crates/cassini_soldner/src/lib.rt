@@ -17,7 +17,7 @@ use root::root;
 use series::{easting_series, latitude_series, longitude_series, northing_series};
 use trigonometry::sin_cos;
 
-#[derive(Drop)]
+#[derive(Clone, Copy)]
 pub struct CassiniSoldner {
     pub a: f64,
     pub e2: f64,
@@ -38,7 +38,7 @@ pub struct CassiniSoldner {
     pub e1_coeff8: f64,
 }
 
-#[derive(Drop)]
+#[derive(Clone, Copy)]
 pub enum BuiltCassiniSoldner {
     Built(CassiniSoldner),
     Refused(u8),

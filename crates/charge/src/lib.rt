@@ -20,7 +20,7 @@ const MOST: u64 = 60;
 const FARTHEST: f64 = 1000000.0;
 
 // The number is 0, or 31, and then all else is 0. A share is that of the child at its place; past the last child it is 0.
-#[derive(Drop)]
+#[derive(Clone, Copy)]
 pub struct Bill {
     pub number: u8,
     pub charge: u64,

@@ -1,4 +1,6 @@
 // Reference ellipsoids: the source's ellipsoid.rs.
+#![tactic(auto)]
+
 ghost use Rattle.std.specs.Prelude.{◌≡◌};
 ghost use Rattle.ellipsoid.specs.Ellipsoid.{from_a_rf, from_a_f, sphere, inverse_flattening, b, e2, e, n, ep2, n_radius, m_radius};
 
@@ -20,13 +22,13 @@ use trigonometry::sin;
 pub use units::{deg_to_rad, rad_to_deg};
 
 // A reference ellipsoid: its semi-major axis in metres, and its flattening (a - b) / a.
-#[derive(Drop)]
+#[derive(Clone, Copy)]
 pub struct Ellipsoid {
     pub a: f64,
     pub f: f64,
 }
 
-#[derive(Drop)]
+#[derive(Clone, Copy)]
 pub enum BuiltEllipsoid {
     Built(Ellipsoid),
     Refused(u8),

@@ -46,7 +46,7 @@ pub const WGS84_SPHERE: Ellipsoid = Ellipsoid {
     f: 0.0,
 };
 
-#[derive(Drop)]
+#[derive(Clone, Copy)]
 pub enum Name {
     Wgs84,
     Grs80,

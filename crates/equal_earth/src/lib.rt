@@ -1,4 +1,6 @@
 // Equal Earth (EPSG method 1078): the source's equal_earth.rs.
+#![tactic(auto)]
+
 ghost use Rattle.std.specs.Prelude.{◌≡◌};
 ghost use Rattle.projection.specs.OnTheMap.{OnTheMap};
 ghost use Rattle.equal_earth.specs.EqualEarth.{y_derivative, y_over_psi, polar_q, derived, new, sin_beta, projected, forward, newton, psi_of_northing, place, scaled_place, formula, inverse};
@@ -15,7 +17,7 @@ use refusals::{OFF_THE_MAP, STEPS_USED_UP};
 use root::root;
 use trigonometry::{cos, sin, sin_cos};
 
-#[derive(Drop)]
+#[derive(Clone, Copy)]
 pub struct EqualEarth {
     pub a: f64,
     pub e2: f64,
@@ -28,7 +30,7 @@ pub struct EqualEarth {
     pub rqda: f64,
 }
 
-#[derive(Drop)]
+#[derive(Clone, Copy)]
 pub enum BuiltEqualEarth {
     Built(EqualEarth),
     Refused(u8),

@@ -12,7 +12,7 @@ use refusals::SPHERE;
 use root::root;
 use trigonometry::{cos, sin_cos};
 
-#[derive(Drop)]
+#[derive(Clone, Copy)]
 pub struct GuamProjection {
     pub a: f64,
     pub e2: f64,
@@ -25,21 +25,21 @@ pub struct GuamProjection {
     pub m1: f64,
 }
 
-#[derive(Drop)]
+#[derive(Clone, Copy)]
 pub enum BuiltGuamProjection {
     Built(GuamProjection),
     Refused(u8),
 }
 
 // The constructor's answer, and beside it the meridian numbers.
-#[derive(Drop)]
+#[derive(Clone, Copy)]
 pub struct NewGuamProjection {
     pub built: BuiltGuamProjection,
     pub en: [f64; 13],
 }
 
 // What a round of the inverse gives: a latitude, and the root of 1 - e² sin² of the latitude before it.
-#[derive(Drop)]
+#[derive(Clone, Copy)]
 pub struct Round {
     pub phi: f64,
     pub t: f64,

@@ -26,7 +26,7 @@ use projection::{
 };
 
 // What a construction answers: a projection of one of the kinds, or a refusal number.
-#[derive(Drop)]
+#[derive(Clone, Copy)]
 pub enum Built {
     Lambert(LambertAzimuthalEqualArea),
     Albers(AlbersEqualArea),
@@ -38,7 +38,7 @@ pub enum Built {
 }
 
 // The 13 meridian numbers stand beside the choice: an enum holds no array. So does the area of use, which every kind may have.
-#[derive(Drop)]
+#[derive(Clone, Copy)]
 pub struct Projection {
     pub built: Built,
     pub en: [f64; 13],
@@ -46,7 +46,7 @@ pub struct Projection {
 }
 
 // What the second inverse gives. Albers, Cassini-Soldner, polyconic and Guam have none.
-#[derive(Drop)]
+#[derive(Clone, Copy)]
 pub enum SecondInverse {
     Gives(Answer),
     Missing,

@@ -9,7 +9,7 @@ use float::clamp;
 use projection::{Answer, Frame, beyond_edge, finish, validate_projected};
 
 // Where a click lies.
-#[derive(Drop)]
+#[derive(Clone, Copy)]
 pub(crate) enum Click {
     AtCentre,
     InFrame,

@@ -16,14 +16,14 @@ use refusals::{ORIGIN_NEAR_POLE, ORIGIN_SCALE, POLAR_Q};
 use root::root;
 use trigonometry::sin_cos;
 
-#[derive(Drop)]
+#[derive(Clone, Copy)]
 pub enum Aspect {
     Oblique,
     NorthPolar,
     SouthPolar,
 }
 
-#[derive(Drop)]
+#[derive(Clone, Copy)]
 pub struct LambertAzimuthalEqualArea {
     pub a: f64,
     pub e2: f64,
@@ -43,7 +43,7 @@ pub struct LambertAzimuthalEqualArea {
     pub aspect: Aspect,
 }
 
-#[derive(Drop)]
+#[derive(Clone, Copy)]
 pub enum BuiltLambertAzimuthalEqualArea {
     Built(LambertAzimuthalEqualArea),
     Refused(u8),

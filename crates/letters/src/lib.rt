@@ -5,14 +5,14 @@ mod uses;
 pub use letters::{is_kind, is_way, kind_of, way_of};
 pub use uses::used;
 
-#[derive(Drop)]
+#[derive(Clone, Copy)]
 pub enum Way {
     Forward,
     Inverse,
 }
 
 // 01's kind, by its letter: L Lambert, S its spherical form, A Albers, E Equal Earth, C Cassini, P polyconic, G Guam.
-#[derive(Drop)]
+#[derive(Clone, Copy)]
 pub enum Kind {
     L,
     S,
@@ -24,7 +24,7 @@ pub enum Kind {
 }
 
 // The settings of a projection.
-#[derive(Drop)]
+#[derive(Clone, Copy)]
 pub struct Settings {
     pub lon0: f64,
     pub lat0: f64,

@@ -23,14 +23,14 @@ pub use results::{first_result, number, second_result};
 pub use starts::enter;
 
 // What a projection answers: a pair of coordinates, or a refusal number.
-#[derive(Drop)]
+#[derive(Clone, Copy)]
 pub enum Answer {
     Pair(f64, f64),
     Refused(u8),
 }
 
 // The edges of an area, in radians. They belong to it. West above east means that it crosses the line of 180 degrees.
-#[derive(Drop)]
+#[derive(Clone, Copy)]
 pub struct Area {
     pub west: f64,
     pub east: f64,
@@ -39,28 +39,28 @@ pub struct Area {
 }
 
 // Where a projection may be used.
-#[derive(Drop)]
+#[derive(Clone, Copy)]
 pub enum AreaOfUse {
     Anywhere,
     Inside(Area),
 }
 
 // What an inverse does with a click in the map's frame: it answers it, held to the map's edge or turned to the other side, or refuses it.
-#[derive(Drop)]
+#[derive(Clone, Copy)]
 pub enum Frame {
     Held,
     Refused,
 }
 
 // What the entrance of a forward gives: the longitude from the origin, or a refusal number.
-#[derive(Drop)]
+#[derive(Clone, Copy)]
 pub enum Entrance {
     Passed(f64),
     Refused(u8),
 }
 
 // What a step of an iteration gives: a value to go on from, the value that was sought, or a refusal number.
-#[derive(Drop)]
+#[derive(Clone, Copy)]
 pub enum Step {
     More(f64),
     Done(f64),
@@ -68,7 +68,7 @@ pub enum Step {
 }
 
 // What an iteration gives.
-#[derive(Drop)]
+#[derive(Clone, Copy)]
 pub enum Solution {
     Found(f64),
     Refused(u8),

@@ -7,7 +7,7 @@ use projection::Answer;
 use root::distance;
 
 // A place, and where the projection puts it.
-#[derive(Drop)]
+#[derive(Clone, Copy)]
 pub(crate) struct Point {
     pub lon: f64,
     pub lat: f64,
@@ -15,14 +15,14 @@ pub(crate) struct Point {
     pub northing: f64,
 }
 
-#[derive(Drop)]
+#[derive(Clone, Copy)]
 pub(crate) enum Projected {
     At(Point),
     Refused(u8),
 }
 
 // What the midpoint of an edge says: the edge is cut there, or left uncut, or the midpoint is refused.
-#[derive(Drop)]
+#[derive(Clone, Copy)]
 pub(crate) enum Middle {
     Cut(Point),
     Uncut,

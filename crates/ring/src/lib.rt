@@ -22,7 +22,7 @@ use tally::{Tally, area_of};
 use walk::{Walked, walk};
 
 // What a ring has: its area and the number of its points; or the number of its refusal.
-#[derive(Drop)]
+#[derive(Clone, Copy)]
 pub enum RingArea {
     Measured(f64, usize),
     Refused(u8),

@@ -6,7 +6,7 @@ ghost use Rattle.ring.specs.Tally.{started, counted, tally_area};
 use crate::edge::Point;
 
 // Their number, the sum of the terms between them, and the last of them.
-#[derive(Drop)]
+#[derive(Clone, Copy)]
 pub(crate) struct Tally {
     pub points: usize,
     pub sum: f64,

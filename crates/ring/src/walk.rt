@@ -13,7 +13,7 @@ use kinds::Projection;
 const DEPTH: usize = 10;
 
 // What a way comes to: a tally of its points, or the first refusal among them.
-#[derive(Drop)]
+#[derive(Clone, Copy)]
 pub(crate) enum Walked {
     Done(Tally),
     Stopped(u8),

@@ -4,7 +4,7 @@ ghost use Rattle.std.proofs.lemmas.List.Edits.{sets};
 ghost use Rattle.sheet.specs.Hex.{digit_value, read_hex, glyph, digits};
 
 // What sixteen bytes say: bits, or that one of them is no digit.
-#[derive(Drop)]
+#[derive(Clone, Copy)]
 pub enum Hex {
     Bits(u64),
     Malformed,

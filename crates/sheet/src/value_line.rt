@@ -8,7 +8,7 @@ use float::f64_of;
 use letters::{Kind, Settings, Way};
 
 // What a value line asks for.
-#[derive(Drop)]
+#[derive(Clone, Copy)]
 pub struct Values {
     pub way: Way,
     pub kind: Kind,
@@ -19,21 +19,21 @@ pub struct Values {
     pub v: f64,
 }
 
-#[derive(Drop)]
+#[derive(Clone, Copy)]
 pub enum ValueLine {
     Values(Values),
     Malformed,
 }
 
 // A field read as a letter, and where the next one starts.
-#[derive(Drop)]
+#[derive(Clone, Copy)]
 struct Letter {
     byte: u8,
     next: usize,
 }
 
 // A field read as a number, and where the next one starts.
-#[derive(Drop)]
+#[derive(Clone, Copy)]
 struct Number {
     good: bool,
     value: f64,
@@ -41,7 +41,7 @@ struct Number {
 }
 
 // A line read to its end.
-#[derive(Drop)]
+#[derive(Clone, Copy)]
 struct Line {
     good: bool,
     values: Values,

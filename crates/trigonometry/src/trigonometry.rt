@@ -54,7 +54,7 @@ fn sine_at(k: u32, r: f64) -> f64
 }
 
 // An angle as k quarter turns and r.
-#[derive(Drop)]
+#[derive(Clone, Copy)]
 struct Angle {
     k: u32,
     r: f64,
@@ -93,7 +93,7 @@ pub fn cos(x: f64) -> f64
     }
 }
 
-#[derive(Drop)]
+#[derive(Clone, Copy)]
 pub struct SinCos {
     pub sin: f64,
     pub cos: f64,
