@@ -1,4 +1,6 @@
 // Lambert Azimuthal Equal Area: 01's kind L, on an ellipsoid, and S, its spherical form.
+#![tactic(auto)]
+
 ghost use Rattle.std.specs.Prelude.{◌≡◌};
 ghost use Rattle.lambert_azimuthal_equal_area.specs.LambertAzimuthalEqualArea.{aspect_at, scale, derived, validate_positive, validate_origin, fault, checked, built, new, new_spherical};
 

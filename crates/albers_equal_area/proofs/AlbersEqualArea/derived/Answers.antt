@@ -1,0 +1,8 @@
+-- The same numbers, from the callees' results.
+use Rattle.albers_equal_area.specs.AlbersEqualArea.{derived}
+use Rattle.albers_equal_area.proofs.AlbersEqualArea.derived.Goals as goal
+
+pub returns : goal.returns
+unfolding derived
+returns c = let e = c in
+    rw (← e.e2-e2.ensures, ← e.root-e.ensures, ← c.cone-cone.ensures, ← c.parallel_radius.ensures)

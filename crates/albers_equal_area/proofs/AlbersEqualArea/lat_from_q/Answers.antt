@@ -1,0 +1,26 @@
+-- The rounds that are left give what all of them give, and a round that is given its two quotients is the definition's (`given_quotients`).
+use Prim.Native.Nat.{◌≤◌, ◌-◌}
+use mathlib.Core.Path.{◌≡◌, ◌∙◌}
+use native.Mathlib.Omega.{arith}
+use borrow.Author.Rules.{rules}
+use Rattle.projection.specs.Iteration.{converge}
+use Rattle.projection.proofs.Steps.{converged, one_round, rounds_used_up}
+use Rattle.albers_equal_area.specs.OnEllipsoid.{latitude_round, lat_from_q, STEPS, TOLERANCE}
+use Rattle.albers_equal_area.proofs.GivenQuotients.{given_quotients}
+use Rattle.albers_equal_area.proofs.AlbersEqualArea.lat_from_q.Goals as goal
+
+pub loop-init : goal.loop-init
+unfolding lat_from_q
+loop-init c = (search rules, rw c.asin-lat.ensures)
+
+pub returns-then-abs : goal.returns-then-abs
+unfolding lat_from_q
+returns-then-abs c = converged _ _ _ _ c.loop.invariant.1 c.loop-test.true (c.latitude_round-next.ensures ∙ given_quotients _ _ _ _) c.abs.ensures c.if-abs.true
+
+pub loop-preserved : goal.loop-preserved
+unfolding lat_from_q
+loop-preserved c = (omega arith, one_round _ _ _ _ c.loop.invariant.1 c.loop-test.true (c.latitude_round-next.ensures ∙ given_quotients _ _ _ _) c.abs.ensures c.if-abs.false)
+
+pub returns : goal.returns
+unfolding lat_from_q
+returns c = rounds_used_up _ _ _ _ _ c.loop.invariant.1 c.loop-test.false

@@ -1,0 +1,13 @@
+-- The settings' refusal, or else what the checks make of what is derived.
+use Rattle.projection.proofs.Refusal.{passes, refuses}
+use Rattle.lambert_azimuthal_equal_area.specs.LambertAzimuthalEqualArea.{built}
+use Rattle.lambert_azimuthal_equal_area.proofs.LambertAzimuthalEqualArea.built.Goals as goal
+
+pub returns-then-fault-eq0 : goal.returns-then-fault-eq0
+unfolding built
+returns-then-fault-eq0 c = passes _ _ _ c.if-fault-eq0.true c.validate_settings-fault.ensures
+    (rw (← c.derived.ensures) c.checked.ensures)
+
+pub returns-else-fault-eq0 : goal.returns-else-fault-eq0
+unfolding built
+returns-else-fault-eq0 c = refuses _ _ _ c.if-fault-eq0.false c.validate_settings-fault.ensures

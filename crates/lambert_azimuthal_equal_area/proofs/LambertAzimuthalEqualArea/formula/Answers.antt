@@ -1,0 +1,13 @@
+-- 20, or else the place.
+use Rattle.projection.proofs.Refusal.{passes, refuses}
+use Rattle.lambert_azimuthal_equal_area.specs.Inverse.{formula}
+use Rattle.lambert_azimuthal_equal_area.proofs.LambertAzimuthalEqualArea.formula.Goals as goal
+
+pub returns-then-fault-eq0 : goal.returns-then-fault-eq0
+unfolding formula
+returns-then-fault-eq0 c = passes _ _ _ c.if-fault-eq0.true c.validate_projected-fault.ensures
+    c.place.ensures
+
+pub returns-else-fault-eq0 : goal.returns-else-fault-eq0
+unfolding formula
+returns-else-fault-eq0 c = refuses _ _ _ c.if-fault-eq0.false c.validate_projected-fault.ensures

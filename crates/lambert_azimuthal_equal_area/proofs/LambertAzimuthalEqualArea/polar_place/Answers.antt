@@ -1,0 +1,24 @@
+-- Where the click lies is the definition's, and so is each arm.
+use Rattle.lambert_azimuthal_equal_area.specs.Inverse.{polar_place}
+use Rattle.lambert_azimuthal_equal_area.proofs.Clicks.{at_centre, in_frame, on_map}
+use Rattle.lambert_azimuthal_equal_area.proofs.LambertAzimuthalEqualArea.polar_place.Goals as goal
+
+pub returns-in-AtCentre : goal.returns-in-AtCentre
+unfolding polar_place
+returns-in-AtCentre c = let arm = c in
+    let click = arm in
+    rw (← c.geodetic_from_authalic.ensures)
+    (at_centre _ _ _ _ _ click.abs.ensures click.judge.ensures arm.in-AtCentre.is)
+
+pub returns-in-InFrame : goal.returns-in-InFrame
+unfolding polar_place
+returns-in-InFrame c = let click = c in
+    in_frame _ _ _ _ _ click.abs.ensures click.judge.ensures c.in-InFrame.is
+
+pub returns-in-OnMap : goal.returns-in-OnMap
+unfolding polar_place
+returns-in-OnMap c = let beta = c in
+    let arm = beta in
+    let click = arm in
+    rw (← beta.bounded_arcsine-beta.ensures, ← c.geodetic_from_authalic-in-OnMap.ensures)
+    (on_map _ _ _ _ _ click.abs.ensures click.judge.ensures arm.in-OnMap.is)

@@ -1,0 +1,22 @@
+-- The choice is the definition's, and so is each arm.
+use Rattle.lambert_azimuthal_equal_area.specs.Forward.{projected, ellipsoidal_forward}
+use Rattle.lambert_azimuthal_equal_area.proofs.LambertAzimuthalEqualArea.projected.Goals as goal
+
+pub returns-then-self : goal.returns-then-self
+unfolding projected ellipsoidal_forward
+returns-then-self c = rw (c.spherical_forward.ensures, c.if-self.true)
+
+pub returns-in-NorthPolar : goal.returns-in-NorthPolar
+unfolding projected ellipsoidal_forward
+returns-in-NorthPolar c = let q = c in
+    rw (c.north_polar_forward.ensures, q.authalic_q-q.ensures, q.if-self.false, c.in-NorthPolar.is)
+
+pub returns-in-SouthPolar : goal.returns-in-SouthPolar
+unfolding projected ellipsoidal_forward
+returns-in-SouthPolar c = let q = c in
+    rw (c.south_polar_forward.ensures, q.authalic_q-q.ensures, q.if-self.false, c.in-SouthPolar.is)
+
+pub returns-in-Oblique : goal.returns-in-Oblique
+unfolding projected ellipsoidal_forward
+returns-in-Oblique c = let q = c in
+    rw (c.oblique_forward.ensures, q.authalic_q-q.ensures, q.if-self.false, c.in-Oblique.is)
