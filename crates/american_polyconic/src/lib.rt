@@ -1,4 +1,6 @@
 // American Polyconic, EPSG method 9818: the source's american_polyconic.rs.
+#![tactic(auto)]
+
 ghost use Rattle.std.specs.Prelude.{◌≡◌};
 ghost use Rattle.american_polyconic.specs.AmericanPolyconic.{new, built, derived, origin_arc};
 

@@ -1,4 +1,6 @@
 // Cassini-Soldner, EPSG method 9806: the source's cassini_soldner.rs.
+#![tactic(auto)]
+
 ghost use Rattle.std.specs.Prelude.{◌≡◌};
 ghost use Rattle.projection.specs.OnTheMap.{OnTheMap};
 ghost use Rattle.cassini_soldner.specs.CassiniSoldner.{new, derived, forward, projected, from_footpoint, formula, inverse};

@@ -1,4 +1,6 @@
 // The travel charge, and each child's share of it: document 02's Q-7.
+#![tactic(auto)]
+
 mod kilometres;
 mod sharing;
 

@@ -1,4 +1,6 @@
 // The Guam projection, EPSG method 9831: GuamProjection of the source's azimuthal_equidistant.rs.
+#![tactic(auto)]
+
 ghost use Rattle.std.specs.Prelude.{◌≡◌};
 ghost use Rattle.projection.specs.OnTheMap.{OnTheMap};
 ghost use Rattle.guam_projection.specs.GuamProjection.{derived, checked, built, new, projected, forward, round_from, rounds, place, formula, inverse};

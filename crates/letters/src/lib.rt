@@ -1,4 +1,6 @@
 // Document 01's words for a point: its way, its kind by the sheet's letter, and the settings of a projection.
+#![tactic(auto)]
+
 mod letters;
 mod uses;
 

@@ -1,0 +1,20 @@
+-- Arm by arm.
+use Rattle.american_polyconic.specs.AmericanPolyconic.{at_latitude}
+use Rattle.trigonometry.specs.Trigonometry.{tangent}
+use Rattle.american_polyconic.proofs.AmericanPolyconic.at_latitude.Goals as goal
+
+pub returns-in-Found : goal.returns-in-Found
+unfolding at_latitude tangent
+returns-in-Found c = let e = c in
+    let sc = e in
+    rw (
+      sc.in-Found.is,
+      ← sc.sin_cos-sc.ensures.0,
+      ← sc.sin_cos-sc.ensures.1,
+      ← e.sin_e.ensures,
+      ← c.asin-e.ensures,
+    )
+
+pub returns-in-Refused : goal.returns-in-Refused
+unfolding at_latitude tangent
+returns-in-Refused c = rw c.in-Refused.is

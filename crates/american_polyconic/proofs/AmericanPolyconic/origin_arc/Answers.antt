@@ -1,0 +1,12 @@
+-- The branches are the definition's.
+use Rattle.american_polyconic.specs.AmericanPolyconic.{origin_arc}
+use Rattle.american_polyconic.proofs.AmericanPolyconic.origin_arc.Goals as goal
+
+pub returns-then-e2 : goal.returns-then-e2
+unfolding origin_arc
+returns-then-e2 c = rw c.if-e2.true
+
+pub returns-else-e2 : goal.returns-else-e2
+unfolding origin_arc
+returns-else-e2 c = let sc = c in
+    rw (sc.if-e2.false, ← sc.sin_cos-sc.ensures.0, ← sc.sin_cos-sc.ensures.1) c.meridian_arc.ensures

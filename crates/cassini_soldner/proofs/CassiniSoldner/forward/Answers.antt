@@ -1,0 +1,12 @@
+-- Arm by arm: the formulas' point, or the refusal.
+use Rattle.projection.specs.Starts.{entered}
+use Rattle.cassini_soldner.specs.CassiniSoldner.{forward}
+use Rattle.cassini_soldner.proofs.CassiniSoldner.forward.Goals as goal
+
+pub returns-in-Passed : goal.returns-in-Passed
+unfolding forward entered
+returns-in-Passed c = let arm = c in rw (← arm.enter.ensures, arm.in-Passed.is) c.projected.ensures
+
+pub returns-in-Refused : goal.returns-in-Refused
+unfolding forward entered
+returns-in-Refused c = let arm = c in rw (← arm.enter.ensures, arm.in-Refused.is)

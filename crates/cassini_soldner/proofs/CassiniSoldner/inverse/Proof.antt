@@ -1,8 +1,0 @@
--- What finish makes of the formula's place, which is on the map.
-use Rattle.cassini_soldner.specs.CassiniSoldner.{inverse}
-use Rattle.cassini_soldner.proofs.CassiniSoldner.inverse.Statement.{statement}
-use Rattle.cassini_soldner.proofs.CassiniSoldner.inverse.Tie as tie
-
-pub inverse_spec : {M : Type 1} → statement M
-unfolding inverse
-inverse_spec = tie.close (tie.spec (λ c κs. tt) (λ c κs. tt) (λ c. rw (← c.before.formula.ensures) c.finish.ensures))

@@ -1,0 +1,14 @@
+-- 20, or else the place.
+use Rattle.guam_projection.specs.GuamProjection.{formula}
+use Rattle.projection.proofs.Refusal.{passes, refuses}
+use Rattle.guam_projection.proofs.GuamProjection.formula.Goals as goal
+
+pub returns-then-fault-eq0 : goal.returns-then-fault-eq0
+unfolding formula
+returns-then-fault-eq0 c = let offsets = c in
+    let passed = offsets in
+    passes _ _ _ passed.if-fault-eq0.true passed.validate_projected-fault.ensures c.place.ensures
+
+pub returns-else-fault-eq0 : goal.returns-else-fault-eq0
+unfolding formula
+returns-else-fault-eq0 c = refuses _ _ _ c.if-fault-eq0.false c.validate_projected-fault.ensures

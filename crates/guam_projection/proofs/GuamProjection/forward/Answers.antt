@@ -1,0 +1,12 @@
+-- Arm by arm: the refusal, or the callees' results.
+use Rattle.guam_projection.specs.GuamProjection.{forward}
+use Rattle.projection.specs.Starts.{entered}
+use Rattle.guam_projection.proofs.GuamProjection.forward.Goals as goal
+
+pub returns-in-Passed : goal.returns-in-Passed
+unfolding forward entered
+returns-in-Passed c = let arm = c in rw (← arm.enter.ensures, arm.in-Passed.is) c.projected.ensures
+
+pub returns-in-Refused : goal.returns-in-Refused
+unfolding forward entered
+returns-in-Refused c = rw (← c.enter.ensures, c.in-Refused.is)

@@ -1,0 +1,7 @@
+-- The same operations, from the callees' results.
+use Rattle.guam_projection.specs.GuamProjection.{place, at_round}
+use Rattle.guam_projection.proofs.GuamProjection.place.Goals as goal
+
+pub returns : goal.returns
+unfolding place at_round
+returns c = let phi = c in rw (← phi.rounds-last.ensures, ← phi.cos.ensures)
