@@ -7,7 +7,7 @@ use Rattle.charge.proofs.kilometres.started_metres.Goals as goal
 
 pub truncating_f64_to_u64-whole-requires : goal.truncating_f64_to_u64-whole-requires
 truncating_f64_to_u64-whole-requires c = let parted : Part c.args.d = part c.args.d (subst T (sym c.well_formed.0.1) tt) c.requires.0 c.requires.1 in
-    (parted.above, parted.below)
+    record { lower_bound = parted.above; upper_bound = parted.below }
 
 -- an f64 holds so few metres
 pub int_to_float-metres : goal.int_to_float-metres

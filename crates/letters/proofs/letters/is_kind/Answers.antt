@@ -11,4 +11,4 @@ returns-in-76 c = sym (hits _ _ _ c.in-76.is)
 
 pub returns-in_default : goal.returns-in_default
 unfolding is_kind ascii
-returns-in_default c = sym (misses _ _ _ c.in_default.rest.1)
+returns-in_default c = sym (misses _ _ _ c.in_default.in_default-own.rest.1)

@@ -11,4 +11,4 @@ returns-in-70 c = sym (hits _ _ _ c.in-70.is)
 
 pub returns-in_default : goal.returns-in_default
 unfolding is_way ascii
-returns-in_default c = sym (misses _ _ _ c.in_default.rest.1)
+returns-in_default c = sym (misses _ _ _ c.in_default.in_default-own.rest.1)
