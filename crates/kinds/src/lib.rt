@@ -1,4 +1,6 @@
 // The choice over the seven kinds: the source's trait and make_projection.
+#![tactic(auto)]
+
 mod by_kind;
 mod choices;
 mod points;
