@@ -1,5 +1,7 @@
 // A projection as 36 numbers, so that a caller can build it once and keep it: a mark that says what it is, the numbers of its
 // kind, from place 18 on the 13 meridian numbers, and from place 31 on the area of use.
+#![tactic(auto)]
+
 mod own;
 mod pack;
 mod unpack;
