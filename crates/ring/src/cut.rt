@@ -21,8 +21,8 @@ pub(crate) fn cut(
 ) -> Walked
     requires { t.points + 2 ^ left ≤ 16777216 }
     ensures value { result ≡ walked t (edge p left a b) }
-    ensures laid { Laid easting_of easting.old t.points (edge p left a b) easting.new }
-    ensures laid_2 { Laid northing_of northing.old t.points (edge p left a b) northing.new }
+    ensures easting_laid { Laid easting_of easting.old t.points (edge p left a b) easting.new }
+    ensures northing_laid { Laid northing_of northing.old t.points (edge p left a b) northing.new }
 {
     if left == 0 {
         return Walked::Done(t);

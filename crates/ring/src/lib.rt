@@ -1,4 +1,6 @@
 // The area of a catchment ring: document 02's Q-3.
+#![tactic(auto)]
+
 mod corners;
 mod cut;
 mod edge;

@@ -28,11 +28,11 @@ pub(crate) fn walk(
     easting: &mut [f64],
     northing: &mut [f64],
 ) -> Walked
-    requires lon_nonzero { (0 < length lon.now) × (length lon.now ≤ 4096) × (length lat.now ≡ length lon.now) }
-    requires lat_value { answered (corners p (drop 1 lon.now) (drop 1 lat.now)) ≡ true }
+    requires sizes { (0 < length lon.now) × (length lon.now ≤ 4096) × (length lat.now ≡ length lon.now) }
+    requires corners_answered { answered (corners p (drop 1 lon.now) (drop 1 lat.now)) ≡ true }
     ensures value { result ≡ walked (started first) (rest p first lon.now lat.now) }
-    ensures laid { Laid easting_of (set easting.old 0 first.easting) 1 (rest p first lon.now lat.now) easting.new }
-    ensures laid_2 { Laid northing_of (set northing.old 0 first.northing) 1 (rest p first lon.now lat.now) northing.new }
+    ensures easting_laid { Laid easting_of (set easting.old 0 first.easting) 1 (rest p first lon.now lat.now) easting.new }
+    ensures northing_laid { Laid northing_of (set northing.old 0 first.northing) 1 (rest p first lon.now lat.now) northing.new }
 {
     let mut a = first;
     let mut t = start(first, easting, northing);

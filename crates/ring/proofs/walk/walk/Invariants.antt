@@ -1,0 +1,19 @@
+-- What is ahead, with what is done, is the whole; at the end nothing is ahead but the last edge.
+use Prim.Native.Nat.{◌-◌}
+use borrow.Author.Rules.{rules}
+use mathlib.Core.Path.{◌≡◌, sym, ◌∙◌}
+use native.Mathlib.Omega.{arith}
+use lib.ListN.{length}
+use Rattle.ring.specs.Edge.{edge}
+use Rattle.ring.specs.Ring.{DEPTH}
+use Rattle.ring.specs.Tally.{walked}
+use Rattle.ring.specs.declared.walk.Walked.TheVariants.{Done, Stopped}
+use Rattle.ring.proofs.Walking as walking
+use Rattle.ring.proofs.Walking.{Walking}
+use Rattle.ring.proofs.walk.walk.Given as goal
+
+abbrev pub invariant-loop-i : goal.invariant-loop-i
+invariant-loop-i l = Walking l.p l.lon l.lat l.first l.initial.easting l.initial.northing l.easting l.northing l.a l.t l.i
+
+abbrev pub decreases-loop-i : goal.decreases-loop-i
+decreases-loop-i l = length l.lon - l.i
