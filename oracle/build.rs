@@ -1,4 +1,4 @@
-//! Names where `rt staticlib` writes the archives that `src/ours.rs` links, and makes of the source's
+//! Names where `tools/archive` writes the archives that `src/ours.rs` links, and makes of the source's
 //! own files, in docs/src, two trees of modules that `src/source.rs` includes:
 //!
 //! - `platform.rs` has them as they are but for the cuts, `crate::` leading to the tree;

@@ -1,6 +1,6 @@
 # shellcheck shell=bash disable=SC2154,SC2015
-# Builds in this repository, one at a time: read by ./lenthuc, tools/bundle and tools/shared-library. They set $me, their name, and $top, the
-# repository's folder. What others build is waited for; on a terminal the crates that are being proved are named; a signal
+# Builds in this repository, one at a time: read by ./lenthuc, tools/archive, tools/bundle and tools/shared-library. They set $me, their name, and
+# $top, the repository's folder. What others build is waited for; on a terminal the crates that are being proved are named; a signal
 # ends what was started.
 
 building=$top/target/building
@@ -98,62 +98,93 @@ crates_of() {
             for (i = 1; i <= n; i++) count(part[i])
         }
         { sub(/#.*/, "") }
-        split($0, side, ":") == 2 { gsub(/[ \t]/, "", side[1]); below[side[1]] = side[2] }
+        split($0, side, ":") == 2 { split(side[1], head, " "); below[head[1]] = side[2] }
         END { count(name); print total + 0 }' "$top/crates.txt"
 }
 
-# rt keeps a word for each crate that it has begun, and until it is done the word is 'failed'.
+# rt names each crate that it takes up, lowest first: 'rt: NAME: begins with what a check kept in FOLDER', where another checkout of
+# this machine has proved it, and 'rt: chose --jobs 2 for NAME'.
 name_crates() {
-    local result word begun=0 now=
-    for result in "$top"/target/log/*.res; do
-        [ "$result" -nt "$building/mark" ] && read -r word <"$result" || continue
+    local line name begun=0 now=
+    while IFS= read -r line; do
+        case $line in
+            "rt: chose --jobs "*" for "*) name=${line##* for } ;;
+            "rt: "*": begins with what a check kept"*) name=${line#rt: } name=${name%%:*} ;;
+            *) continue ;;
+        esac
+        [ "$name" != "$now" ] || continue
         begun=$((begun + 1))
-        result=${result##*/}
-        [ "$word" != failed ] || now="$now, ${result%.res}"
-    done
-    [ "$begun" -eq 0 ] || show "proves crate $begun of $crates${now:+: ${now#, }}"
+        now=$name
+    done <"$building/said"
+    [ "$begun" -eq 0 ] || show "proves crate $begun of $crates: $now"
 }
 
 rt_quietly() {
-    cd "$top" || exit
-    exec rt "$@" </dev/null >"$building/said" 2>&1
+    cd "$top/crates/$2" || exit
+    exec rt "$1" </dev/null >"$building/said" 2>&1
 }
 
-# rt COMMAND NAME, quiet unless it fails. rt takes what it has built before and is unchanged.
+# What rt said of the crate that it came to last, without what went well.
+why_failed() {
+    awk '
+        /^rt: chose --jobs / { said = ""; next }
+        !/^[a-z]+ [^ ]+: proved$/ && !/^(statements|library|logic|axioms) / { said = said $0 "\n" }
+        END { printf "%s", said }' "$building/said"
+}
+
+# rt COMMAND in the folder of the crate NAME, quiet unless it fails. rt takes what it has proved before and is unchanged.
 prove() {
     local crates watch=name_crates status=0
     crates=$(crates_of "$2")
-    : >"$building/mark"
+    : >"$building/said"
     in_group rt_quietly "$@" || status=$?
     show ''
-    [ "$status" -eq 0 ] || cat "$building/said" >&2
+    [ "$status" -eq 0 ] || why_failed >&2
     return "$status"
+}
+
+# Puts what was built where it is looked for, under target/: whole or not at all, and only if it is another one.
+keep() {
+    local kept=$top/target/$2
+    ! cmp -s "$1" "$kept" || return 0
+    mkdir -p "${kept%/*}" && cp "$1" "$kept.new" && mv -f "$kept.new" "$kept"
+}
+
+# Proves the static library NAME, and writes target/staticlib/libNAME.a.
+build_archive() {
+    prove lib "$1" && keep "$top/crates/$1/out/lib$1.a" "staticlib/lib$1.a"
+}
+
+# Proves the program NAME, and writes target/bin/NAME. rt runs it too, on no input.
+build_program() {
+    prove run "$1" && keep "$top/crates/$1/out/$1" "bin/$1"
 }
 
 # The identity of the kit that the rt at a path belongs to.
 identify() {
-    local kit=${RATTLE_HOME:-${1%/bin/rt}}
+    local kit=${1%/bin/rt}
     identity=
     [ ! -f "$kit/KIT-ID" ] || read -r identity <"$kit/KIT-ID" || true
 }
 
-# What a build notes as it starts, for is_unchanged: the path of rt, its kit's identity, and these words; one a line.
+# What a build notes as it starts, for is_unchanged: the path of rt and its kit's identity, a line each.
 note_rt() {
     rt=$(readlink -f "$rt")
     identify "$rt"
-    printf '%s\n' "$rt" "$identity" "$@"
+    printf '%s\n' "$rt" "$identity"
 }
 
 # NOTE FILE..: no source and none of these files has changed since a build made its note, and rt is the same. A machine without
-# rt takes what is built. Puts the note's lines into $known.
+# rt takes what is built. rt's own work, in crates/NAME/out, is no source, and it makes that folder in crates/NAME.
 is_unchanged() {
-    local note=$1 newer
+    local note=$1 newer known
     shift
     [ -f "$note" ] || return 1
     mapfile -t known <"$note"
     [ "${#known[@]}" -gt 1 ] || return 1
     identify "${known[0]}"
     [ -z "$rt" ] || [ "$rt" -ef "${known[0]}" ] && [ "$identity" = "${known[1]}" ] || return 1
-    newer=$(find "$top/crates.txt" "$top/crates" "$@" \( -newer "$note" -o -cnewer "$note" \) -print -quit 2>&1) || return 1
+    newer=$(find "$top/crates.txt" "$top/crates" "$@" -path "$top/crates/*/out" -prune -o \
+        \( -newer "$note" -o -cnewer "$note" \) ! \( -path "$top/crates/*" ! -path "$top/crates/*/*" \) -print -quit 2>&1) || return 1
     [ -z "$newer" ]
 }

@@ -200,13 +200,13 @@ LENTHUC_INLINE const char *lenthuc_words(uint8_t number)
 
 /*
  * Whether there is an ellipsoid of semi-major axis a and flattening f = (a - b) / a: 0, 4 or 5. A sphere has f = 0.
- * Proved: the number is that of the definition from-a-f.
+ * Proved: the number is that of the definition from_a_f.
  */
 uint8_t lenthuc_from_a_f(double a, double f);
 
 /*
  * The same by the inverse flattening rf = 1 / f: 0, 3 or 4. Puts the flattening into *f, +0 of a refusal.
- * Proved: the number and *f are those of the definition from-a-rf.
+ * Proved: the number and *f are those of the definition from_a_rf.
  */
 uint8_t lenthuc_from_a_rf(double a, double rf, double *f);
 
@@ -239,7 +239,7 @@ struct lenthuc_area {
 
 /*
  * A longitude brought into [-pi, pi] by whole turns, as a place's is before an area is asked. Of a NaN and of an infinity: NaN.
- * Proved: the result is that of the definition normalize-longitude.
+ * Proved: the result is that of the definition normalize_longitude.
  */
 double lenthuc_normalize_longitude(double lon);
 
@@ -263,7 +263,7 @@ uint8_t lenthuc_build(uint8_t kind, const struct lenthuc_settings *settings,
 /*
  * Builds a projection that has an area of use. Returns 0, or 2 to 15 but 3, or 25. What is refused is filled as lenthuc_build
  * fills it. A place inside the area has the same results, bit for bit, as without one.
- * Proved: the number is that of the construction with the area by the definition build-in-area, and what *projection then
+ * Proved: the number is that of the construction with the area by the definition build_in_area, and what *projection then
  * holds, by the definition unpacked, is that construction.
  */
 uint8_t lenthuc_build_in_area(uint8_t kind, const struct lenthuc_settings *settings, const struct lenthuc_area *area,
@@ -330,8 +330,8 @@ uint8_t lenthuc_inverse_column(const struct lenthuc_projection *projection, cons
  *
  * A limit is one double, summed once, and what equals it passes. An infinity is above it, and a NaN is not. The numbers come
  * in this order: the projection's own; 20; 30, but not of E's longitude; 22; 30 of E's longitude; 23; 24; 26.
- * Proved: it returns what the definition has-second-inverse says of the projection that the numbers hold by the definition
- * unpacked, of any numbers; where that is 1, the number and the results are those of the definition inverse-on-map, bit for
+ * Proved: it returns what the definition has_second_inverse says of the projection that the numbers hold by the definition
+ * unpacked, of any numbers; where that is 1, the number and the results are those of the definition inverse_on_map, bit for
  * bit. Where the number is not 30 they are lenthuc_inverse's. So whatever is answered lies on the map and inside the area of
  * use, as for lenthuc_inverse.
  */
@@ -386,7 +386,7 @@ uint8_t lenthuc_inverse_on_map_column(const struct lenthuc_projection *projectio
  * Nothing is written before the area is known: so the ring is gone round twice, and most points are projected twice or three
  * times. No memory is taken but the stack, some 15 kB as measured. How near the area is to the one on the ground is not
  * proved.
- * Proved: the number, *area and *points are those of the definition ring-area, for the projection that the numbers hold by
+ * Proved: the number, *area and *points are those of the definition ring_area, for the projection that the numbers hold by
  * the definition unpacked, of any numbers; and both buffers then hold the points of the definition ring, and after them what
  * stood there, or, of any refusal, all that stood there.
  */
@@ -414,7 +414,7 @@ uint8_t lenthuc_ring_area(const struct lenthuc_projection *projection, const dou
  * - The distance is the straight one on the map, and not the way by road. How near it is to the one on the ground depends on
  *   the map, and is not proved.
  *
- * Proved: the number and the whole of order after the call are those of the definitions nearest-number and nearest-list, for
+ * Proved: the number and the whole of order after the call are those of the definitions nearest_number and nearest_list, for
  * every length of the four lists. Where no two sums are equal, order is the same whatever the rolls; where all rolls are equal,
  * they decide nothing; and they never change the sum at a place of order.
  */
@@ -446,7 +446,7 @@ uint8_t lenthuc_nearest(double easting, double northing, const double *eastings,
  *   finite or is above 1,000,000 m. The limits themselves pass. dx and dy have no limit of their own. rate and children have
  *   64 bits, so that no larger number is cut to one that passes. An int of -1 is refused too.
  *
- * Proved: the number, *charge and every place of shares are those of the definition travel-charge, for every input. And the
+ * Proved: the number, *charge and every place of shares are those of the definition travel_charge, for every input. And the
  * shares add up to the charge and never rise; those of any two children differ by at most one; past the last child they are 0.
  * Where dx * dx + dy * dy is no greater than that of another way, which is answered, this one is too, and costs no more: so
  * along the schools that lenthuc_nearest lists charges never fall.
@@ -464,7 +464,7 @@ uint8_t lenthuc_travel_charge(double dx, double dy, uint64_t rate, uint64_t chil
  * than LENTHUC_SHEET_ROOM bytes is left as it is, and LENTHUC_SHEET_ROOM is returned, which is then more than room. A sheet
  * over the limit is answered by a line that says so, so no more than one byte over it need be handed in. A sheet's
  * projections have no area of use.
- * Proved: the output is that of the definition sheet-text, and the length is its length; or room is too little, and the output
+ * Proved: the output is that of the definition sheet_text, and the length is its length; or room is too little, and the output
  * is as it was. And whatever an inverse line answers lies on the map, as for lenthuc_inverse.
  */
 size_t lenthuc_answer_sheet(const uint8_t *input, size_t in, uint8_t *LENTHUC_RESTRICT output, size_t room);

@@ -1,5 +1,5 @@
 //! Finds the proved archive that `src/raw.rs` links: in the folder that LENTHUC_ARCHIVE names, or
-//! where `rt staticlib capi` writes it, target/staticlib at the repository's top. A build script of
+//! where `tools/archive` writes it, target/staticlib at the repository's top. A build script of
 //! a crate that depends on this one is told the folder by the variable DEP_CAPI_FOLDER.
 
 use std::env;
@@ -51,15 +51,15 @@ fn folder() -> Result<String, String> {
     }
     let Ok(archive) = fs::read(folder.join(ARCHIVE)) else {
         return Err(format!(
-            "the proved archive {ARCHIVE} is not in {shown}: run `rt staticlib capi` at the top of \
+            "the proved archive {ARCHIVE} is not in {shown}: run `tools/archive` at the top of \
              Lenthuc's repository, or set {FOLDER} to the folder that has it"
         ));
     };
     // Of this too a linker says only that a symbol is not there.
     if !archive.windows(NEWEST.len()).any(|part| part == NEWEST) {
         return Err(format!(
-            "the archive {ARCHIVE} in {shown} is older than this crate, {}: run `rt staticlib capi` \
-             again at the top of Lenthuc's repository",
+            "the archive {ARCHIVE} in {shown} is older than this crate, {}: run `tools/archive` again \
+             at the top of Lenthuc's repository",
             env!("CARGO_PKG_VERSION")
         ));
     }

@@ -187,7 +187,7 @@
 //!
 //! # Linking
 //!
-//! The archive is `libcapi.a`, which `rt staticlib capi` proves and writes into `target/staticlib`
+//! The archive is `libcapi.a`, which `tools/archive` proves and writes into `target/staticlib`
 //! at the top of Lenthuc's repository. The build looks there, or in the folder that the environment
 //! variable `LENTHUC_ARCHIVE` names by an absolute path. The archive is for x86-64 Linux. It must
 //! have the crate's version: one that lacks a function is refused by the build, and building a
