@@ -12,7 +12,7 @@ pub extern "C" fn lenthuc_travel_charge(
     charge: &mut u64,
     shares: &mut [u64; 60],
 ) -> u8
-    ensures value { result ≡ (travel_charge dx dy rate children).number }
+    ensures number { result ≡ (travel_charge dx dy rate children).number }
     ensures charge_after { charge.new ≡ (travel_charge dx dy rate children).charge }
     ensures shares_after { shares.new ≡ (travel_charge dx dy rate children).shares }
 {

@@ -13,7 +13,7 @@ pub extern "C" fn lenthuc_nearest(
     rolls: &[u16],
     order: &mut [u16],
 ) -> u8
-    ensures value { result ≡ nearest_number easting northing eastings.now northings.now rolls.now (length order.old) }
+    ensures number { result ≡ nearest_number easting northing eastings.now northings.now rolls.now (length order.old) }
     ensures order_after { order.new ≡ nearest_list result easting northing eastings.now northings.now rolls.now order.old }
 {
     nearest::nearest(easting, northing, eastings, northings, rolls, order)

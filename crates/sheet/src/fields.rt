@@ -43,8 +43,8 @@ pub(crate) fn part(line: &[u8], at: usize, next: usize) -> &[u8]
 
 // Field i, uncopied: the part of the caller's line that begins at the field's start. Empty where the line has no such field.
 pub fn field(line: &[u8], i: usize) -> &[u8]
-    ensures result_value { result.now ≡ field line.now i }
-    ensures result_value_2 { result.now ≡ take (length result.now) (drop (field_start line.now i) line.now) }
+    ensures is_field { result.now ≡ field line.now i }
+    ensures in_line { result.now ≡ take (length result.now) (drop (field_start line.now i) line.now) }
 {
     let mut start = 0;
     for _ in 0..i {

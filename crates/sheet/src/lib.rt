@@ -1,4 +1,6 @@
 // Document 01's sheet: bytes in, bytes out.
+#![tactic(auto)]
+
 mod answer_line;
 mod fields;
 mod hex;

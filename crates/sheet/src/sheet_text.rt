@@ -55,8 +55,9 @@ fn put_sheet(input: &[u8], out: &mut [u8]) -> usize
     }
     let e = end_of(input, 0, b'\n');
     if check::same(&input[..e], b"way,kind,a,f,lon0,lat0,lat1,lat2,fe,fn,u,v") {
-        let w = bytes::copy(b"code,p,q\n", out);
-        put_body(input, e + 1, out, w)
+        let names = b"code,p,q\n";
+        out[..names.len()].copy_from_slice(names);
+        put_body(input, e + 1, out, names.len())
     } else {
         put_answer(out, 0, Answer::Refused(LINE_FORM))
     }

@@ -1,19 +1,16 @@
 -- Those so far are good, and the rest is to be looked at.
-use Prim.Native.Nat.{◌+◌, ◌-◌}
-use mathlib.Core.Path.{◌≡◌, refl, sym, ap, ◌∙◌}
+use Prim.Native.Nat.{◌+◌}
+use mathlib.Core.Path.{sym, ap, ◌∙◌}
 use mathlib.Core.Bool.{◌&&◌}
 use native.Mathlib.Omega.{arith}
-use borrow.Author.Rules.{rules}
-use lib.ListN.{length, drop}
-use Rattle.nearest.specs.Nearest.{coordinate, coordinates}
+use lib.ListN.{drop}
+use Rattle.nearest.specs.Nearest.{coordinates}
 use Rattle.nearest.proofs.Lists.{coordinates_on, coordinates_end}
 use Rattle.nearest.proofs.coordinates.coordinates.Goals as goal
 
-pub loop-i-init : goal.loop-i-init
-loop-i-init c = refl
-
 pub loop-i-preserved : goal.loop-i-preserved
-loop-i-preserved c = let at = c.loop-i in
+loop-i-preserved c =
+    let at = c.loop-i in
     let l = c.args.list.now in
     coordinates_on l at.i at.good (omega arith) at.invariant ∙ ap (λ x. (at.good && x) && coordinates (drop (at.i + 1) l)) (sym c.coordinate-good.ensures)
 
