@@ -1,7 +1,7 @@
 -- What the test of the lengths says, and what the columns then hold.
 use Prim.Native.Nat.{ℕ}
 use mathlib.Core.Path.{◌≡◌, refl}
-use mathlib.Core.Bool.{Bool, true, false, ◌&&◌, and-eq-true_iff}
+use mathlib.Core.Bool.{true, false, and-eq-true_iff}
 use mathlib.Core.List.{List, map}
 use borrow.Author.Tests.{eqb-true}
 use lib.Dec.{eqb}

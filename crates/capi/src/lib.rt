@@ -1,4 +1,6 @@
 // What Rust and C link. bindings/c/lenthuc.h documents it for both.
+#![tactic(auto)]
+
 mod building;
 mod charges;
 mod columns;

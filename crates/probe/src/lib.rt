@@ -1,4 +1,6 @@
 // What the oracle links: the functions that it compares and times, under C names. For the oracle alone.
+#![tactic(auto)]
+
 ghost use Rattle.std.specs.Prelude.{◌≡◌};
 ghost use Rattle.std.specs.Float.{binary64};
 ghost use Rattle.std.specs.Float.Ieee.{of_bits, to_bits, is_nan};
