@@ -37,7 +37,7 @@ on f lat0 lat1 lat2 = new (record { a = one; f = f }) +0 lat0 lat1 lat2 +0 +0
 abbrev between : String → Float → Float → ℕ → Row
 between label lat1 lat2 = row label (by (λ p. forward p +0 +0) (on +0 +0 lat1 lat2))
 
--- on the flattening f with lat0.6, the parallels.5 and .7
+-- on the flattening f with lat0 .6, the parallels .5 and .7
 abbrev atlas : Float → BuiltAlbersEqualArea
 atlas f = on f (ratio 6 10) half (ratio 7 10)
 

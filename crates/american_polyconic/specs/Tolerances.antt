@@ -1,5 +1,5 @@
 -- The polyconic's tolerances and its step limit.
-use Rattle.std.specs.Prelude.{ℕ, ◌^◌, ◌≡◌, refl, List, [], ◌∷◌, Float}
+use Rattle.std.specs.Prelude.{ℕ, ◌^◌, ◌≡◌, refl, [], ◌∷◌, Float}
 use Rattle.std.specs.Float.Ieee.{of_bits, round}
 use Rattle.float.specs.Operators.{f64}
 use Rattle.float.specs.Constants.{ratio}

@@ -1,5 +1,5 @@
 -- The authalic latitude β, whose sphere has the ellipsoid's area: Snyder's q (3-12), β (3-11) and the series back (3-18).
-use Rattle.std.specs.Prelude.{◌≡◌, refl, List, [], ◌∷◌, Bool, cond, ℕ, ◌^◌, Float}
+use Rattle.std.specs.Prelude.{◌≡◌, refl, [], ◌∷◌, Bool, cond, ◌^◌, Float}
 use Rattle.std.specs.Float.Ieee.{neg, of_bits, round}
 use Rattle.float.specs.Operators.{◌⊕◌, ◌⊖◌, ◌⊗◌, ◌⊘◌, ◌≺◌, f64}
 use Rattle.float.specs.Constants.{one, two, three, four, ratio}

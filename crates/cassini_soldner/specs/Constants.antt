@@ -1,5 +1,5 @@
 -- The constants of Cassini-Soldner's definitions. They stand by their bits, as literals of the code do; `constants` says what each stands for.
-use Rattle.std.specs.Prelude.{◌≡◌, refl, List, [], ◌∷◌, ℕ, ◌^◌, Float}
+use Rattle.std.specs.Prelude.{◌≡◌, refl, [], ◌∷◌, ◌^◌, Float}
 use Rattle.std.specs.Float.Ieee.{of_bits, round}
 use Rattle.float.specs.Operators.{f64}
 use Rattle.float.specs.Constants.{ratio}

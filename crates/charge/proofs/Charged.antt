@@ -9,8 +9,7 @@ use Rattle.float.specs.Operators.{◌≺◌, ◌≼◌}
 use Rattle.charge.specs.declared.Bill.{Bill}
 use Rattle.charge.specs.Least.{Least}
 use Rattle.charge.specs.Kilometres.{reaches, kilometres}
-use Rattle.charge.specs.Shares.{shares}
-use Rattle.charge.specs.Charge.{FARTHEST, refused, no_bill, bill, charged, travel_charge}
+use Rattle.charge.specs.Charge.{FARTHEST, refused, no_bill, bill, travel_charge}
 use Rattle.charge.specs.Fair.{Fair}
 use Rattle.charge.proofs.CountingUp.{least_passes}
 use Rattle.charge.proofs.WholePart.{at_most, below_zero}

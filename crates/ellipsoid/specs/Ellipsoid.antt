@@ -1,5 +1,5 @@
 -- An ellipsoid by its semi-major axis a and its flattening f, and the numbers made of them, in the source's order of operations.
-use Rattle.std.specs.Prelude.{Bool, cond, ◌&&◌, Float}
+use Rattle.std.specs.Prelude.{cond, ◌&&◌, Float}
 use Rattle.std.specs.Float.Ieee.Scale.{finite}
 use Rattle.float.specs.Operators.{◌⊖◌, ◌⊗◌, ◌⊘◌, ◌≺◌, ◌≼◌, ◌≈◌}
 use Rattle.float.specs.Constants.{+0, one, two}

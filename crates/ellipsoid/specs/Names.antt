@@ -1,5 +1,5 @@
 -- The source's named ellipsoids: the semi-major axis in metres, and 1 over the inverse flattening, divided once.
-use Rattle.std.specs.Prelude.{◌≡◌, refl, List, [], ◌∷◌, ℕ, ◌^◌, Float}
+use Rattle.std.specs.Prelude.{◌≡◌, refl, [], ◌∷◌, ℕ, ◌^◌, Float}
 use Rattle.std.specs.Float.Ieee.{of_bits, round, div}
 use Rattle.float.specs.Operators.{◌⊘◌, f64}
 use Rattle.float.specs.Constants.{+0, one, ratio}

@@ -1,7 +1,7 @@
 -- The second inverse is 30 for the clicks that document 02 names, and the first inverse elsewhere. It gives 30 for no other click.
 use Prim.Native.Nat.{ℕ}
-use mathlib.Core.Path.{◌≡◌, refl, ◌∙◌}
-use mathlib.Core.Bool.{Bool, true, false, cond, ◌||◌}
+use mathlib.Core.Path.{◌≡◌, refl}
+use mathlib.Core.Bool.{Bool, true, false, ◌||◌}
 use native.Mathlib.Omega.{arith}
 use lib.Ieee.{Float, neg}
 use Rattle.float.specs.Operators.{◌⊖◌, ◌⊗◌, ◌⊘◌, ◌≺◌}
@@ -9,7 +9,6 @@ use Rattle.float.specs.Sign.{abs}
 use Rattle.float.specs.Limits.{clamp}
 use Rattle.refusals.specs.Refusals.{STEPS_USED_UP}
 use Rattle.projection.specs.MapEdge.{beyond_edge}
-use Rattle.projection.specs.declared.Answer.{Answer}
 use Rattle.projection.specs.declared.Frame.TheVariants.{Held, Refused}
 use Rattle.projection.specs.declared.Solution.{Solution}
 use Rattle.projection.specs.declared.Solution.TheVariants as solution

@@ -1,6 +1,6 @@
 -- Equal Earth (Šavrič, Patterson and Jenny, 2018; IOGP 7-2 method 1078), in the source's order of operations.
 -- The source writes ψ for the parametric latitude that both papers call θ. Their equations are named here by what they give, not by a number.
-use Rattle.std.specs.Prelude.{◌≡◌, refl, List, [], ◌∷◌, cond, ℕ, ◌^◌, Float}
+use Rattle.std.specs.Prelude.{◌≡◌, refl, [], ◌∷◌, cond, ℕ, ◌^◌, Float}
 use Rattle.std.specs.Float.Ieee.{neg, of_bits, round, add, mul, div}
 use Rattle.float.specs.Operators.{◌⊕◌, ◌⊖◌, ◌⊗◌, ◌⊘◌, ◌≈◌, f64}
 use Rattle.float.specs.Constants.{+0, half, one, two, three, PI, FRAC_PI_2, ratio}

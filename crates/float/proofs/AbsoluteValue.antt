@@ -2,7 +2,7 @@
 use mathlib.Core.Bool.{Bool, true, false, cond}
 use Prim.Native.Nat.{ℕ}
 use lib.Ieee.{Float, Format, neg}
-use Rattle.float.specs.Sign.{negative, abs}
+use Rattle.float.specs.Sign.{abs}
 use Rattle.float.proofs.Units.{units_sign}
 use Rattle.float.proofs.Finite.{Finite}
 use Rattle.float.proofs.Negation.{neg_finite}

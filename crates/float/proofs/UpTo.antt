@@ -1,6 +1,6 @@
 -- A finite float from +0 up to a number of units, and the operations that stay within such bounds.
 use mathlib.Core.Bool.{false}
-use Prim.Native.Nat.{ℕ, ◌+◌, ◌-◌, ◌*◌, ◌^◌, ◌≤◌, ◌<◌}
+use Prim.Native.Nat.{ℕ, ◌+◌, ◌*◌, ◌^◌, ◌≤◌, ◌<◌}
 use native.Mathlib.Nat.{le_refl, le_trans, lt_of_le_of_lt, mul-le-mul, mul-le-mul_left, mul_comm, sub-le}
 use lib.Pow.{pow_pos}
 use lib.Ieee.{Float, Format, prec, low, add, sub, mul, div}

@@ -1,5 +1,5 @@
 -- Where a click lies, and what it then gets, from what the code was told of it.
-use mathlib.Core.Path.{◌≡◌, refl, sym, ◌∙◌}
+use mathlib.Core.Path.{◌≡◌, sym, ◌∙◌}
 use mathlib.Core.Bool.{Bool, true, false}
 use lib.Ieee.{Float}
 use Rattle.float.specs.Operators.{◌≺◌}

@@ -1,14 +1,10 @@
 -- The second inverse is 30 for the clicks that document 02 names, and the first inverse elsewhere. It gives 30 for no other click.
-use mathlib.Core.Path.{◌≡◌, refl, sym, ◌∙◌}
+use mathlib.Core.Path.{◌≡◌, refl}
 use mathlib.Core.Bool.{Bool, true, false, not, cond, ◌&&◌}
 use lib.Ieee.{Float}
-use lib.Ieee.Scale.{finite}
 use Rattle.float.specs.Operators.{◌⊖◌, ◌≺◌}
-use Rattle.refusals.specs.Refusals.{OFF_THE_MAP}
-use Rattle.projection.specs.Checks.{guard, validate_projected}
 use Rattle.projection.specs.MapEdge.{beyond_edge}
 use Rattle.projection.specs.declared.Answer.{Answer}
-use Rattle.projection.specs.declared.Answer.TheVariants as answer
 use Rattle.projection.specs.declared.Frame.TheVariants.{Held, Refused}
 use Rattle.projection.proofs.OffTheMap.{off_if, guard_off, finish_off, NeverOff, pair_never_off, cond_never_off, guard_never_off, finish_never_off}
 use Rattle.lambert_azimuthal_equal_area.specs.LambertAzimuthalEqualArea.{RHO_EPSILON, EDGE}

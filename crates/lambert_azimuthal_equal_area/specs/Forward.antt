@@ -1,5 +1,5 @@
 -- From a place to the map: x east and y north of the origin, plus the false offsets.
-use Rattle.std.specs.Prelude.{Bool, cond, Float}
+use Rattle.std.specs.Prelude.{cond, Float}
 use Rattle.float.specs.Operators.{◌⊕◌, ◌⊖◌, ◌⊗◌, ◌⊘◌, ◌≼◌}
 use Rattle.float.specs.Constants.{+0, one, two}
 use Rattle.float.specs.Limits.{max_zero}
@@ -10,7 +10,7 @@ use Rattle.authalic.specs.Authalic.{authalic_q, authalic_latitude}
 use Rattle.projection.specs.Starts.{enter, entered}
 use Rattle.projection.specs.Ends.{ensure_finite_xy}
 use Rattle.projection.specs.declared.Answer.{Answer}
-use Rattle.projection.specs.declared.Answer.TheVariants.{Pair, Refused}
+use Rattle.projection.specs.declared.Answer.TheVariants.{Refused}
 use Rattle.lambert_azimuthal_equal_area.specs.declared.Aspect.{Aspect}
 use Rattle.lambert_azimuthal_equal_area.specs.declared.Aspect.TheVariants.{Oblique, NorthPolar, SouthPolar}
 use Rattle.lambert_azimuthal_equal_area.specs.declared.LambertAzimuthalEqualArea.{LambertAzimuthalEqualArea}

@@ -1,5 +1,5 @@
 -- From the map to a place: the first inverse, which holds a click in the frame to the map's edge, and the second (document 02, Q-6), which refuses it.
-use Rattle.std.specs.Prelude.{Bool, cond, Float}
+use Rattle.std.specs.Prelude.{cond, Float}
 use Rattle.std.specs.Float.Ieee.{neg}
 use Rattle.float.specs.Operators.{◌⊕◌, ◌⊖◌, ◌⊗◌, ◌⊘◌, ◌≺◌}
 use Rattle.float.specs.Constants.{one, two}

@@ -1,5 +1,5 @@
 -- Lambert Azimuthal Equal Area (Snyder chapter 24; IOGP method 9820, and 1027 for S): its settings, the numbers made of them, and when they are refused.
-use Rattle.std.specs.Prelude.{◌≡◌, refl, Bool, true, false, cond, ◌&&◌, List, [], ◌∷◌, ℕ, ◌^◌, Float}
+use Rattle.std.specs.Prelude.{◌≡◌, refl, Bool, true, false, cond, ◌&&◌, [], ◌∷◌, ℕ, ◌^◌, Float}
 use Rattle.std.specs.Float.Ieee.{of_bits, round, add}
 use Rattle.std.specs.Float.Ieee.Scale.{finite}
 use Rattle.float.specs.Operators.{◌⊕◌, ◌⊖◌, ◌⊗◌, ◌⊘◌, ◌≺◌, f64}

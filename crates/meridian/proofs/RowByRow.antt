@@ -1,10 +1,9 @@
 -- The loop over the rows of both tables, as a recursion that computes to the definition.
 use Prim.Native.Nat.{ℕ, zero, suc, ◌≤◌, ◌<◌, ◌-◌, ◌+◌, ◌/◌}
-use mathlib.Core.Path.{◌≡◌, refl, sym, ◌∙◌}
+use mathlib.Core.Path.{◌≡◌, refl}
 use mathlib.Core.List.{List, ◌∷◌}
 use native.Mathlib.Omega.{arith}
-use borrow.Author.Rules.{rules}
-use lib.ListN.{length, take, drop, set, replicate, length-set}
+use lib.ListN.{take, drop, set, replicate}
 use lib.Ieee.{Float}
 use Rattle.float.specs.Operators.{◌⊗◌}
 use Rattle.float.specs.Constants.{+0}

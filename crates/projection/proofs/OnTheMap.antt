@@ -1,19 +1,19 @@
 -- Demand 3's theorem, `finish_on_the_map`: what `finish` answers is a place on the map.
 use mathlib.Core.Path.{◌≡◌, refl, sym, ◌∙◌, subst}
 use mathlib.Core.Bool.{Bool, true, false, cond, ◌&&◌}
-use Prim.Native.Nat.{ℕ, ◌+◌, ◌-◌, ◌*◌, ◌^◌, ◌≤◌, ◌<◌}
-use native.Mathlib.Nat.{lt_of_le_of_lt, mul-one}
+use Prim.Native.Nat.{ℕ, ◌+◌, ◌*◌, ◌^◌, ◌≤◌, ◌<◌}
+use native.Mathlib.Nat.{lt_of_le_of_lt}
 use native.Mathlib.Omega.{arith}
-use lib.IntN.{ℤ, pos, nat_abs, sub_ℕ, ◌+ℤ◌, ◌-ℤ◌, ◌*ℤ◌}
+use lib.IntN.{ℤ, nat_abs, sub_ℕ, ◌+ℤ◌, ◌-ℤ◌, ◌*ℤ◌}
 use lib.Dec.{T, ltb, nltb→le, lit≤, lit<}
-use lib.Ieee.{Float, fin, binary64, fits, of_bits}
+use lib.Ieee.{Float, binary64, fits, of_bits}
 use lib.Ieee.Scale.{finite}
 use Rattle.float.specs.Operators.{◌≺◌}
 use Rattle.float.specs.Constants.{+0, PI, FRAC_PI_2, TURN}
 use Rattle.float.specs.Sign.{negative, abs}
 use Rattle.float.specs.Units.{unit_count, in_units}
 use Rattle.float.proofs.NoOverflow.{whole_sum_below}
-use Rattle.float.proofs.Units.{HasUnits, units_finite, units_count}
+use Rattle.float.proofs.Units.{units_finite, units_count}
 use Rattle.float.proofs.SignedUnits.{units_signed, difference_units, abs_units}
 use Rattle.float.proofs.Finite.{Finite, finite_of, count_representable}
 use Rattle.float.proofs.AbsoluteValue.{abs_finite}

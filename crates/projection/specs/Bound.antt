@@ -1,5 +1,5 @@
 -- 01's bound on latitudes: π/2 + 1e-12, summed once.
-use Rattle.std.specs.Prelude.{◌≡◌, refl, List, [], ◌∷◌, ℕ, ◌^◌, Float}
+use Rattle.std.specs.Prelude.{◌≡◌, refl, [], ◌∷◌, ◌^◌, Float}
 use Rattle.std.specs.Float.Ieee.{of_bits, round, add}
 use Rattle.float.specs.Operators.{◌⊕◌, f64}
 use Rattle.float.specs.Constants.{FRAC_PI_2, ratio}

@@ -1,5 +1,5 @@
 -- The checks: each gives document 01's refusal number, or 0 where it passes. Beyond the bound means strictly above it.
-use Rattle.std.specs.Prelude.{Bool, cond, ◌&&◌, ℕ, zero, suc, Float}
+use Rattle.std.specs.Prelude.{cond, ◌&&◌, ℕ, zero, suc, Float}
 use Rattle.std.specs.Float.Ieee.Scale.{finite}
 use Rattle.float.specs.Operators.{◌≺◌}
 use Rattle.float.specs.Sign.{abs}

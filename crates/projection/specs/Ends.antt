@@ -1,5 +1,5 @@
 -- The end of every forward and of every inverse.
-use Rattle.std.specs.Prelude.{Bool, cond, ◌&&◌, Float}
+use Rattle.std.specs.Prelude.{cond, ◌&&◌, Float}
 use Rattle.std.specs.Float.Ieee.Scale.{finite}
 use Rattle.float.specs.Operators.{◌≺◌}
 use Rattle.float.specs.Sign.{abs}

@@ -1,5 +1,5 @@
 -- Normalising a longitude into [-π, π], as the source does.
-use Rattle.std.specs.Prelude.{Bool, cond, ◌&&◌, Float}
+use Rattle.std.specs.Prelude.{cond, ◌&&◌, Float}
 use Rattle.std.specs.Float.Ieee.{neg}
 use Rattle.float.specs.Operators.{◌⊕◌, ◌⊖◌, ◌≺◌, ◌≈◌}
 use Rattle.float.specs.Constants.{+0, PI}

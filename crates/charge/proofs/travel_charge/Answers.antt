@@ -19,9 +19,8 @@ shares-requires c = let passed : (let s = c.args in Good c.distance-d.result s.r
     (passed.some, passed.few, low)
 
 pub returns-then-good : goal.returns-then-good
-returns-then-good c = let paid = c in
-    let s = paid.args in
-    charge_of s.dx s.dy paid.distance-d.ensures s.rate s.children paid.if-good.true paid.kilometres.ensures.0 c.shares.ensures
+returns-then-good c = let s = c.args in
+    charge_of s.dx s.dy c.distance-d.ensures s.rate s.children c.if-good.true c.kilometres.ensures.0 c.shares.ensures
 
 pub returns-else-good : goal.returns-else-good
 returns-else-good c = let s = c.args in

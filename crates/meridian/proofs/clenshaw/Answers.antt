@@ -1,12 +1,9 @@
 -- The two sums so far are the fold over the coefficients from k on.
-use Prim.Native.Nat.{◌≤◌}
-use mathlib.Core.Path.{◌≡◌, sym, ap, ◌∙◌}
+use mathlib.Core.Path.{sym, ap, ◌∙◌}
 use native.Mathlib.Omega.{arith}
-use borrow.Author.Rules.{rules}
-use lib.ListN.{length, drop}
 use Rattle.float.specs.Operators.{◌⊗◌}
 use Rattle.float.specs.Constants.{two}
-use Rattle.meridian.specs.Meridian.{from_end, Sums, clenshaw_step, no_sums, clenshaw}
+use Rattle.meridian.specs.Meridian.{Sums, clenshaw_step, clenshaw}
 use Rattle.meridian.proofs.FromEnd.{from_none, from_more, from_all}
 use Rattle.meridian.proofs.clenshaw.Goals as goal
 

@@ -1,13 +1,8 @@
 -- The two sums so far are the fold over the coefficients from k on.
 use Prim.Native.Nat.{◌≤◌}
-use mathlib.Core.Path.{◌≡◌, sym, ap, ◌∙◌}
-use native.Mathlib.Omega.{arith}
-use borrow.Author.Rules.{rules}
+use mathlib.Core.Path.{◌≡◌}
 use lib.ListN.{length, drop}
-use Rattle.float.specs.Operators.{◌⊗◌}
-use Rattle.float.specs.Constants.{two}
-use Rattle.meridian.specs.Meridian.{from_end, Sums, clenshaw_step, no_sums, clenshaw}
-use Rattle.meridian.proofs.FromEnd.{from_none, from_more, from_all}
+use Rattle.meridian.specs.Meridian.{from_end, clenshaw_step, no_sums}
 use Rattle.meridian.proofs.clenshaw.Given as goal
 
 abbrev pub invariant-loop-k : goal.invariant-loop-k

@@ -1,6 +1,5 @@
 -- The same operations, from the callees' results.
 use Rattle.meridian.specs.Meridian.{meridian_arc}
-use borrow.Author.Rules.{rules}
 use Rattle.meridian.proofs.meridian_arc.Goals as goal
 
 pub returns : goal.returns

@@ -1,14 +1,9 @@
 -- Each turn stores one row of both tables, as `fill` does, and six turns of `fill` compute to the definition.
-use Prim.Native.Nat.{ℕ, zero, suc, ◌≤◌, ◌<◌, ◌-◌, ◌+◌, ◌/◌}
-use mathlib.Core.Path.{◌≡◌, refl, sym, ◌∙◌}
-use mathlib.Core.List.{List, ◌∷◌}
+use Prim.Native.Nat.{◌-◌, ◌+◌}
+use mathlib.Core.Path.{refl, sym, ◌∙◌}
 use native.Mathlib.Omega.{arith}
-use borrow.Author.Rules.{rules}
-use lib.ListN.{length, take, drop, set, replicate, length-set}
-use lib.Ieee.{Float}
-use Rattle.float.specs.Operators.{◌⊗◌}
-use Rattle.float.specs.Constants.{+0}
-use Rattle.meridian.specs.Meridian.{polyval, COEFF_MU_PHI, COEFF_PHI_MU, arc_factor, rows, sine_coefficients, third_flattening, coefficients, meridian_arc_coefficients}
+use lib.ListN.{length-set}
+use Rattle.meridian.specs.Meridian.{arc_factor, third_flattening, meridian_arc_coefficients}
 use Rattle.meridian.proofs.RowByRow.{room, one_row, next_row, fill, one_turn, no_turn, all_turns}
 use Rattle.meridian.proofs.meridian_arc_coefficients.Goals as goal
 

@@ -1,14 +1,8 @@
 -- Each turn stores one row of both tables, as `fill` does, and six turns of `fill` compute to the definition.
-use Prim.Native.Nat.{ℕ, zero, suc, ◌≤◌, ◌<◌, ◌-◌, ◌+◌, ◌/◌}
-use mathlib.Core.Path.{◌≡◌, refl, sym, ◌∙◌}
-use mathlib.Core.List.{List, ◌∷◌}
-use native.Mathlib.Omega.{arith}
-use borrow.Author.Rules.{rules}
-use lib.ListN.{length, take, drop, set, replicate, length-set}
-use lib.Ieee.{Float}
-use Rattle.float.specs.Operators.{◌⊗◌}
-use Rattle.float.specs.Constants.{+0}
-use Rattle.meridian.specs.Meridian.{polyval, COEFF_MU_PHI, COEFF_PHI_MU, arc_factor, rows, sine_coefficients, third_flattening, coefficients, meridian_arc_coefficients}
+use Prim.Native.Nat.{◌≤◌, ◌-◌, ◌+◌, ◌/◌}
+use mathlib.Core.Path.{◌≡◌}
+use lib.ListN.{length}
+use Rattle.meridian.specs.Meridian.{coefficients}
 use Rattle.meridian.proofs.RowByRow.{room, fill}
 use Rattle.meridian.proofs.meridian_arc_coefficients.Given as goal
 

@@ -1,11 +1,7 @@
 -- The sum so far is the fold over the coefficients from k on.
-use Prim.Native.Nat.{◌≤◌}
-use mathlib.Core.Path.{◌≡◌, sym, ◌∙◌}
+use mathlib.Core.Path.{sym, ◌∙◌}
 use native.Mathlib.Omega.{arith}
-use borrow.Author.Rules.{rules}
-use lib.ListN.{length, drop}
-use Rattle.float.specs.Constants.{+0}
-use Rattle.meridian.specs.Meridian.{from_end, horner, polyval}
+use Rattle.meridian.specs.Meridian.{polyval}
 use Rattle.meridian.proofs.FromEnd.{from_none, from_more, from_all}
 use Rattle.meridian.proofs.polyval.Goals as goal
 

@@ -1,12 +1,9 @@
 -- The sum so far is the fold over the coefficients from k on.
 use Prim.Native.Nat.{◌≤◌}
-use mathlib.Core.Path.{◌≡◌, sym, ◌∙◌}
-use native.Mathlib.Omega.{arith}
-use borrow.Author.Rules.{rules}
+use mathlib.Core.Path.{◌≡◌}
 use lib.ListN.{length, drop}
 use Rattle.float.specs.Constants.{+0}
-use Rattle.meridian.specs.Meridian.{from_end, horner, polyval}
-use Rattle.meridian.proofs.FromEnd.{from_none, from_more, from_all}
+use Rattle.meridian.specs.Meridian.{from_end, horner}
 use Rattle.meridian.proofs.polyval.Given as goal
 
 abbrev pub invariant-loop-k : goal.invariant-loop-k

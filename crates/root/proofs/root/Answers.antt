@@ -1,5 +1,5 @@
 -- By the comparisons with 0 and the exponent's field; each form of a positive finite x is a `Scaled`.
-use Rattle.std.proofs.Common.{◌/◌, ◌^◌, ◌<◌, T, sym, ◌∙◌, subst, arith, rules}
+use Rattle.std.proofs.Common.{◌/◌, ◌^◌, ◌<◌, T, sym, ◌∙◌, subst, arith}
 use lib.Count.{count_leading_zeros}
 use lib.Ieee.{binary64, of_bits, to_bits, fits, div}
 use lib.Ieee.Positive.{positive}

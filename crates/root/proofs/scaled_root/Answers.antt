@@ -1,5 +1,5 @@
 -- The nearest whole root, packed, is the root.
-use Rattle.std.proofs.Common.{sym, ◌∙◌, arith, rules}
+use Rattle.std.proofs.Common.{sym, ◌∙◌, arith}
 use Rattle.root.proofs.Packed.{packed, packed_no_nan}
 use Rattle.root.proofs.RootUnits.{Rooted, rooted}
 use Rattle.root.proofs.scaled_root.Goals as goal

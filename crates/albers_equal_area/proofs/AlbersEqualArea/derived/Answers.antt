@@ -4,5 +4,4 @@ use Rattle.albers_equal_area.proofs.AlbersEqualArea.derived.Goals as goal
 
 pub returns : goal.returns
 unfolding derived
-returns c = let e = c in
-    rw (← e.e2-e2.ensures, ← e.root-e.ensures, ← c.cone-cone.ensures, ← c.parallel_radius.ensures)
+returns c = rw (← c.e2-e2.ensures, ← c.root-e.ensures, ← c.cone-cone.ensures, ← c.parallel_radius.ensures)

@@ -4,7 +4,5 @@ use Rattle.albers_equal_area.proofs.AlbersEqualArea.ellipsoid_cone.Goals as goal
 
 pub returns : goal.returns
 unfolding ellipsoid_cone
-returns c = let q1 = c in
-    let m2 = q1 in
-    rw (← m2.m_func-m1.ensures, ← m2.m_func-m2.ensures, ← q1.q_func-q0.ensures, ← q1.q_func-q1.ensures)
+returns c = rw (← c.m_func-m1.ensures, ← c.m_func-m2.ensures, ← c.q_func-q0.ensures, ← c.q_func-q1.ensures)
     (rw (← c.q_func-q2.ensures, ← c.cone_constant-n.ensures))

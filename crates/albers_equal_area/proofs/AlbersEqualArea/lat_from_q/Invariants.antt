@@ -1,12 +1,8 @@
 -- The rounds that are left give what all of them give, and a round that is given its two quotients is the definition's (`given_quotients`).
 use Prim.Native.Nat.{◌≤◌, ◌-◌}
-use mathlib.Core.Path.{◌≡◌, ◌∙◌}
-use native.Mathlib.Omega.{arith}
-use borrow.Author.Rules.{rules}
+use mathlib.Core.Path.{◌≡◌}
 use Rattle.projection.specs.Iteration.{converge}
-use Rattle.projection.proofs.Steps.{converged, one_round, rounds_used_up}
 use Rattle.albers_equal_area.specs.OnEllipsoid.{latitude_round, lat_from_q, STEPS, TOLERANCE}
-use Rattle.albers_equal_area.proofs.GivenQuotients.{given_quotients}
 use Rattle.albers_equal_area.proofs.AlbersEqualArea.lat_from_q.Given as goal
 
 abbrev pub invariant-loop : goal.invariant-loop

@@ -4,4 +4,4 @@ use Rattle.albers_equal_area.proofs.AlbersEqualArea.q_of_offset.Goals as goal
 
 pub returns : goal.returns
 unfolding q_of_offset
-returns c = let fields = c in rw (← fields.root-rho.ensures)
+returns c = rw (← c.root-rho.ensures)

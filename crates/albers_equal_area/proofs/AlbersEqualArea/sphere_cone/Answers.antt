@@ -4,7 +4,5 @@ use Rattle.albers_equal_area.proofs.AlbersEqualArea.sphere_cone.Goals as goal
 
 pub returns : goal.returns
 unfolding sphere_cone
-returns c = let n = c in
-    let lat2 = n in
-    let lat1 = lat2.sin_cos-parallel.ensures in
-    rw (← lat1.0, ← lat1.1, ← lat2.sin.ensures, ← n.cone_constant-n.ensures, ← c.sphere_q.ensures)
+returns c = let lat1 = c.sin_cos-parallel.ensures in
+    rw (← lat1.0, ← lat1.1, ← c.sin.ensures, ← c.cone_constant-n.ensures, ← c.sphere_q.ensures)

@@ -5,15 +5,13 @@ use Rattle.american_polyconic.proofs.AmericanPolyconic.at_latitude.Goals as goal
 
 pub returns-in-Found : goal.returns-in-Found
 unfolding at_latitude tangent
-returns-in-Found c = let e = c in
-    let sc = e in
-    rw (
-      sc.in-Found.is,
-      ← sc.sin_cos-sc.ensures.0,
-      ← sc.sin_cos-sc.ensures.1,
-      ← e.sin_e.ensures,
-      ← c.asin-e.ensures,
-    )
+returns-in-Found c = rw (
+  c.in-Found.is,
+  ← c.sin_cos-sc.ensures.0,
+  ← c.sin_cos-sc.ensures.1,
+  ← c.sin_e.ensures,
+  ← c.asin-e.ensures,
+)
 
 pub returns-in-Refused : goal.returns-in-Refused
 unfolding at_latitude tangent

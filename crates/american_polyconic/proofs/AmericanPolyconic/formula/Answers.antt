@@ -5,8 +5,7 @@ use Rattle.american_polyconic.proofs.AmericanPolyconic.formula.Goals as goal
 
 pub returns-then-fault-eq0 : goal.returns-then-fault-eq0
 unfolding formula
-returns-then-fault-eq0 c = let test = c in
-    passes _ _ _ test.if-fault-eq0.true test.validate_projected-fault.ensures
+returns-then-fault-eq0 c = passes _ _ _ c.if-fault-eq0.true c.validate_projected-fault.ensures
     (rw (← c.ordinate.ensures) c.place.ensures)
 
 pub returns-else-fault-eq0 : goal.returns-else-fault-eq0

@@ -8,5 +8,4 @@ returns-then-e2 c = rw c.if-e2.true
 
 pub returns-else-e2 : goal.returns-else-e2
 unfolding origin_arc
-returns-else-e2 c = let sc = c in
-    rw (sc.if-e2.false, ← sc.sin_cos-sc.ensures.0, ← sc.sin_cos-sc.ensures.1) c.meridian_arc.ensures
+returns-else-e2 c = rw (c.if-e2.false, ← c.sin_cos-sc.ensures.0, ← c.sin_cos-sc.ensures.1) c.meridian_arc.ensures

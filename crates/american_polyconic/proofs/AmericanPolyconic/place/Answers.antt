@@ -8,5 +8,4 @@ returns-then-abs c = rw (← c.abs.ensures, c.if-abs.true)
 
 pub returns-else-abs : goal.returns-else-abs
 unfolding place
-returns-else-abs c = let test = c in
-    rw (← test.abs.ensures, test.if-abs.false, ← c.latitude.ensures) c.at_latitude.ensures
+returns-else-abs c = rw (← c.abs.ensures, c.if-abs.false, ← c.latitude.ensures) c.at_latitude.ensures

@@ -9,14 +9,12 @@ returns-then-abs c = rw (← c.abs.ensures, c.if-abs.true) c.scaled.ensures
 
 pub returns-else-abs : goal.returns-else-abs
 unfolding sphere_forward tangent
-returns-else-abs c = let e = c in
-    let sc = e in
-    rw (
-      ← sc.abs.ensures,
-      sc.if-abs.false,
-      ← sc.sin_cos-sc.ensures.0,
-      ← sc.sin_cos-sc.ensures.1,
-      ← e.sin_cos-e.ensures.0,
-      ← e.sin_cos-e.ensures.1,
-    )
+returns-else-abs c = rw (
+  ← c.abs.ensures,
+  c.if-abs.false,
+  ← c.sin_cos-sc.ensures.0,
+  ← c.sin_cos-sc.ensures.1,
+  ← c.sin_cos-e.ensures.0,
+  ← c.sin_cos-e.ensures.1,
+)
     c.scaled-else-abs.ensures

@@ -1,9 +1,7 @@
 -- The steps that are left give what all of them give.
-use Prim.Native.Nat.{◌≤◌, ◌-◌, ◌+◌}
-use mathlib.Core.Path.{◌≡◌, refl, sym, ◌∙◌}
-use native.Mathlib.Omega.{arith}
-use Rattle.projection.specs.Iteration.{after_step, iterate}
-use Rattle.projection.proofs.Steps.{after_done, after_stop, after_more, used_up, one_step}
+use Prim.Native.Nat.{◌≤◌, ◌-◌}
+use mathlib.Core.Path.{◌≡◌}
+use Rattle.projection.specs.Iteration.{iterate}
 use Rattle.american_polyconic.specs.Tolerances.{STEPS}
 use Rattle.american_polyconic.specs.Newton.{step, latitude}
 use Rattle.american_polyconic.proofs.newton.latitude.Given as goal

@@ -5,10 +5,8 @@ use Rattle.cassini_soldner.proofs.CassiniSoldner.formula.Goals as goal
 
 pub returns-then-fault-eq0 : goal.returns-then-fault-eq0
 unfolding formula footpoint
-returns-then-fault-eq0 c = let foot = c in
-    let test = foot in
-    passes _ _ _ test.if-fault-eq0.true test.validate_projected-fault.ensures
-    (rw (← foot.footpoint_latitude-lat1.ensures) c.from_footpoint.ensures)
+returns-then-fault-eq0 c = passes _ _ _ c.if-fault-eq0.true c.validate_projected-fault.ensures
+    (rw (← c.footpoint_latitude-lat1.ensures) c.from_footpoint.ensures)
 
 pub returns-else-fault-eq0 : goal.returns-else-fault-eq0
 unfolding formula footpoint

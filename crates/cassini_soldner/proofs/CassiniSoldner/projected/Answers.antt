@@ -5,16 +5,12 @@ use Rattle.cassini_soldner.proofs.CassiniSoldner.projected.Goals as goal
 
 pub returns : goal.returns
 unfolding projected tangent
-returns c = let northing = c in
-    let easting = northing in
-    let n_val = easting in
-    let phi = n_val in
-    rw (
-      ← phi.sin_cos-phi.ensures.0,
-      ← phi.sin_cos-phi.ensures.1,
-      ← n_val.root.ensures,
-      ← easting.meridional_arc-m.ensures,
-      ← easting.easting_series.ensures,
-      ← northing.northing_series.ensures,
-    )
+returns c = rw (
+  ← c.sin_cos-phi.ensures.0,
+  ← c.sin_cos-phi.ensures.1,
+  ← c.root.ensures,
+  ← c.meridional_arc-m.ensures,
+  ← c.easting_series.ensures,
+  ← c.northing_series.ensures,
+)
     c.ensure_finite_xy.ensures

@@ -4,5 +4,4 @@ use Rattle.cassini_soldner.proofs.arc.footpoint_latitude.Goals as goal
 
 pub returns : goal.returns
 unfolding footpoint_latitude
-returns c = let second = c in
-    rw (← second.sin.ensures, ← second.sin-2.ensures, ← c.sin-3.ensures, ← c.sin-4.ensures)
+returns c = rw (← c.sin.ensures, ← c.sin-2.ensures, ← c.sin-3.ensures, ← c.sin-4.ensures)

@@ -1,5 +1,5 @@
 -- The started metres in thousands, rounded up.
-use Rattle.std.proofs.Common.{arith, rules}
+use Rattle.std.proofs.Common.{arith}
 use Rattle.charge.proofs.Started.{kilometres_are}
 use Rattle.charge.proofs.kilometres.kilometres.Goals as goal
 

@@ -21,10 +21,8 @@ overflow_add-result c = let parted : Part c.args.d = part c.args.d (subst T (sym
 
 pub returns-then-metres-d : goal.returns-then-metres-d
 returns-then-metres-d c = let parted : Part c.args.d = part c.args.d (subst T (sym c.well_formed.0.1) tt) c.requires.0 c.requires.1 in
-    let cut = c in
-    rw cut.truncating_f64_to_u64-whole.ensures (one_more _ (parted) (rw cut.truncating_f64_to_u64-whole.ensures at c.if-metres-d.true))
+    rw c.truncating_f64_to_u64-whole.ensures (one_more _ (parted) (rw c.truncating_f64_to_u64-whole.ensures at c.if-metres-d.true))
 
 pub returns-else-metres-d : goal.returns-else-metres-d
 returns-else-metres-d c = let parted : Part c.args.d = part c.args.d (subst T (sym c.well_formed.0.1) tt) c.requires.0 c.requires.1 in
-    let cut = c in
-    rw cut.truncating_f64_to_u64-whole.ensures (no_more _ (parted) (rw cut.truncating_f64_to_u64-whole.ensures at c.if-metres-d.false))
+    rw c.truncating_f64_to_u64-whole.ensures (no_more _ (parted) (rw c.truncating_f64_to_u64-whole.ensures at c.if-metres-d.false))

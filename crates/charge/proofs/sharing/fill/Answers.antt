@@ -1,5 +1,5 @@
 -- Place by place the value.
-use Rattle.std.proofs.Common.{◌≡◌, ◌-◌, ◌≤◌, length, take, replicate, refl, arith, length-set, rules}
+use Rattle.std.proofs.Common.{◌≡◌, length, refl, arith, length-set}
 use Rattle.charge.proofs.Filling.{filled_on, filled}
 use Rattle.charge.proofs.sharing.fill.Goals as goal
 

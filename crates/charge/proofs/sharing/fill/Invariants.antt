@@ -1,6 +1,5 @@
 -- Place by place the value.
-use Rattle.std.proofs.Common.{◌≡◌, ◌-◌, ◌≤◌, length, take, replicate, refl, arith, length-set, rules}
-use Rattle.charge.proofs.Filling.{filled_on, filled}
+use Rattle.std.proofs.Common.{◌≡◌, ◌-◌, ◌≤◌, length, take, replicate}
 use Rattle.charge.proofs.sharing.fill.Given as goal
 
 abbrev pub invariant-loop-i : goal.invariant-loop-i

@@ -1,12 +1,16 @@
 -- The larger shares first, then the others, and the zeros that stood after them.
-use Rattle.std.proofs.Common.{◌≡◌, ℕ, ◌+◌, ◌-◌, ◌/◌, ◌%◌, ◌<◌, ◌≤◌, ◌++◌, replicate, sym, refl, ◌∙◌, mod-lt, div-le_self, arith, length-take-le, rules}
+use Rattle.std.proofs.Common.{◌≡◌, ℕ, ◌+◌, ◌-◌, ◌/◌, ◌%◌, ◌<◌, ◌≤◌, ◌++◌, replicate, sym, refl, ◌∙◌, mod-lt, div-le_self, arith, length-take-le}
 use Rattle.charge.specs.Shares.{shares}
 use Rattle.charge.proofs.Filling.{zeros, still, two_runs}
 use Rattle.charge.proofs.sharing.shares.Goals as goal
 
+-- how many shares there are
+abbrev last_of : ℕ → ℕ
+last_of children = children
+
 pub slice_bounds-list-end : goal.slice_bounds-list-end
 slice_bounds-list-end c = let larger : ℕ = c.args.charge % c.args.children in
-    let last : ℕ = c.args.children in
+    let last : ℕ = last_of c.args.children in
     let fewer : c.args.charge % c.args.children < c.args.children = mod-lt c.args.charge c.requires.0 in
     let larger_few : larger ≤ last = omega (arith, fewer, c.requires.0, c.requires.1) in
     let last_few : last ≤ 60 = omega (arith, c.requires.1) in
@@ -14,7 +18,7 @@ slice_bounds-list-end c = let larger : ℕ = c.args.charge % c.args.children in
 
 pub slice_bounds-fill-end : goal.slice_bounds-fill-end
 slice_bounds-fill-end c = let larger : ℕ = c.args.charge % c.args.children in
-    let last : ℕ = c.args.children in
+    let last : ℕ = last_of c.args.children in
     let fewer : c.args.charge % c.args.children < c.args.children = mod-lt c.args.charge c.requires.0 in
     let larger_few : larger ≤ last = omega (arith, fewer, c.requires.0, c.requires.1) in
     let last_few : last ≤ 60 = omega (arith, c.requires.1) in
@@ -26,7 +30,7 @@ overflow_add-share c = let fewer : c.args.charge % c.args.children < c.args.chil
 
 pub offset_bounds-list-larger : goal.offset_bounds-list-larger
 offset_bounds-list-larger c = let larger : ℕ = c.args.charge % c.args.children in
-    let last : ℕ = c.args.children in
+    let last : ℕ = last_of c.args.children in
     let fewer : c.args.charge % c.args.children < c.args.children = mod-lt c.args.charge c.requires.0 in
     let larger_few : larger ≤ last = omega (arith, fewer, c.requires.0, c.requires.1) in
     let last_few : last ≤ 60 = omega (arith, c.requires.1) in
@@ -34,21 +38,21 @@ offset_bounds-list-larger c = let larger : ℕ = c.args.charge % c.args.children
 
 pub slice_bounds-fill-count : goal.slice_bounds-fill-count
 slice_bounds-fill-count c = let larger : ℕ = c.args.charge % c.args.children in
-    let last : ℕ = c.args.children in
+    let last : ℕ = last_of c.args.children in
     let fewer : c.args.charge % c.args.children < c.args.children = mod-lt c.args.charge c.requires.0 in
     let larger_few : larger ≤ last = omega (arith, fewer, c.requires.0, c.requires.1) in
     larger_few
 
 pub slice_bounds-list-start : goal.slice_bounds-list-start
 slice_bounds-list-start c = let larger : ℕ = c.args.charge % c.args.children in
-    let last : ℕ = c.args.children in
+    let last : ℕ = last_of c.args.children in
     let fewer : c.args.charge % c.args.children < c.args.children = mod-lt c.args.charge c.requires.0 in
     let larger_few : larger ≤ last = omega (arith, fewer, c.requires.0, c.requires.1) in
     larger_few
 
 pub slice_bounds-list-end-2 : goal.slice_bounds-list-end-2
 slice_bounds-list-end-2 c = let larger : ℕ = c.args.charge % c.args.children in
-    let last : ℕ = c.args.children in
+    let last : ℕ = last_of c.args.children in
     let fewer : c.args.charge % c.args.children < c.args.children = mod-lt c.args.charge c.requires.0 in
     let larger_few : larger ≤ last = omega (arith, fewer, c.requires.0, c.requires.1) in
     let last_few : last ≤ 60 = omega (arith, c.requires.1) in
@@ -57,7 +61,7 @@ slice_bounds-list-end-2 c = let larger : ℕ = c.args.charge % c.args.children i
 pub returns : goal.returns
 unfolding shares
 returns c = let larger : ℕ = c.args.charge % c.args.children in
-    let last : ℕ = c.args.children in
+    let last : ℕ = last_of c.args.children in
     let fewer : c.args.charge % c.args.children < c.args.children = mod-lt c.args.charge c.requires.0 in
     let larger_few : larger ≤ last = omega (arith, fewer, c.requires.0, c.requires.1) in
     let last_few : last ≤ 60 = omega (arith, c.requires.1) in

@@ -1,6 +1,5 @@
 -- Arm by arm, the constants have the definition's bits.
 use Rattle.ellipsoid.specs.Names.{named}
-use borrow.Author.Rules.{rules}
 use Rattle.ellipsoid.proofs.names.named.Goals as goal
 
 pub returns-in-Wgs84 : goal.returns-in-Wgs84

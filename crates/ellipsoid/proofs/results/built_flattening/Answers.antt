@@ -1,5 +1,4 @@
 -- Arm by arm.
-use borrow.Author.Rules.{rules}
 use Rattle.ellipsoid.proofs.results.built_flattening.Goals as goal
 
 pub returns-in-Built : goal.returns-in-Built

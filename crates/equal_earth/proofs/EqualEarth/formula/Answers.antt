@@ -5,8 +5,7 @@ use Rattle.equal_earth.proofs.EqualEarth.formula.Goals as goal
 
 pub returns-then-fault-eq0 : goal.returns-then-fault-eq0
 unfolding formula
-returns-then-fault-eq0 c = let passed = c in
-    passes _ _ _ passed.if-fault-eq0.true passed.validate_projected-fault.ensures c.scaled_place.ensures
+returns-then-fault-eq0 c = passes _ _ _ c.if-fault-eq0.true c.validate_projected-fault.ensures c.scaled_place.ensures
 
 pub returns-else-fault-eq0 : goal.returns-else-fault-eq0
 unfolding formula

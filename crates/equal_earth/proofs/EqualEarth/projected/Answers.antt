@@ -4,8 +4,5 @@ use Rattle.equal_earth.proofs.EqualEarth.projected.Goals as goal
 
 pub returns : goal.returns
 unfolding projected
-returns c = let rise = c in
-    let slope = rise in
-    let psi = slope in
-    rw (← psi.sin_beta.ensures, ← psi.asin-psi.ensures, ← slope.cos.ensures, ← slope.y_derivative.ensures, ← rise.y_over_psi.ensures)
+returns c = rw (← c.sin_beta.ensures, ← c.asin-psi.ensures, ← c.cos.ensures, ← c.y_derivative.ensures, ← c.y_over_psi.ensures)
     c.ensure_finite_xy.ensures

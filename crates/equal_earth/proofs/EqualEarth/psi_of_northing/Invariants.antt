@@ -1,10 +1,7 @@
 -- The rounds that are left give what all of them give.
 use Prim.Native.Nat.{◌≤◌, ◌-◌}
-use mathlib.Core.Path.{◌≡◌, refl}
-use native.Mathlib.Omega.{arith}
-use borrow.Author.Rules.{rules}
+use mathlib.Core.Path.{◌≡◌}
 use Rattle.projection.specs.Iteration.{converge}
-use Rattle.projection.proofs.Steps.{converged, one_round, rounds_used_up}
 use Rattle.equal_earth.specs.EqualEarth.{newton, psi_of_northing, STEPS, TOLERANCE}
 use Rattle.equal_earth.proofs.EqualEarth.psi_of_northing.Given as goal
 

@@ -3,11 +3,8 @@ use Rattle.equal_earth.proofs.Clicks.{northing_off, northing_on}
 use Rattle.equal_earth.proofs.EqualEarth.scaled_place.Goals as goal
 
 pub returns-then-beyond_edge : goal.returns-then-beyond_edge
-returns-then-beyond_edge c = let edge = c in northing_off _ _ _ _ edge.abs.ensures edge.beyond_edge.ensures c.if-beyond_edge.true
+returns-then-beyond_edge c = northing_off _ _ _ _ c.abs.ensures c.beyond_edge.ensures c.if-beyond_edge.true
 
 pub returns-else-beyond_edge : goal.returns-else-beyond_edge
-returns-else-beyond_edge c = let held = c in
-    let inside = held in
-    let edge = inside in
-    rw (c.place.ensures, c.psi_of_northing.ensures, held.clamp-held.ensures)
-    (northing_on _ _ _ _ edge.abs.ensures edge.beyond_edge.ensures inside.if-beyond_edge.false)
+returns-else-beyond_edge c = rw (c.place.ensures, c.psi_of_northing.ensures, c.clamp-held.ensures)
+    (northing_on _ _ _ _ c.abs.ensures c.beyond_edge.ensures c.if-beyond_edge.false)

@@ -8,10 +8,8 @@ returns-then-t c = rw (← c.abs-t.ensures, c.if-t.true, c.nan.ensures)
 
 pub returns-then-t-2 : goal.returns-then-t-2
 unfolding arcsine
-returns-then-t-2 c = let f = c in
-    rw (← f.abs-t.ensures, f.if-t.false, f.if-t-2.true, ← c.is_negative.ensures, ← c.pick.ensures)
+returns-then-t-2 c = rw (← c.abs-t.ensures, c.if-t.false, c.if-t-2.true, ← c.is_negative.ensures, ← c.pick.ensures)
 
 pub returns : goal.returns
 unfolding arcsine
-returns c = let f = c in
-    rw (← f.abs-t.ensures, f.if-t.false, f.if-t-2.false, ← c.root.ensures, ← c.atan.ensures)
+returns c = rw (← c.abs-t.ensures, c.if-t.false, c.if-t-2.false, ← c.root.ensures, ← c.atan.ensures)

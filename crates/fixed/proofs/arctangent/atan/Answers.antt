@@ -4,15 +4,13 @@ use Rattle.fixed.proofs.arctangent.atan.Goals as goal
 
 pub returns : goal.returns
 unfolding arctangent
-returns c = let p = c in
-    let h = p in
-    rw (
-      ← h.abs-t.ensures,
-      ← h.at_most_one.ensures,
-      ← h.half_angle.ensures,
-      ← p.half_angle-2.ensures,
-      ← p.arc-a.ensures,
-      ← p.pick-b.ensures,
-      ← c.is_negative.ensures,
-      ← c.pick.ensures,
-    )
+returns c = rw (
+  ← c.abs-t.ensures,
+  ← c.at_most_one.ensures,
+  ← c.half_angle.ensures,
+  ← c.half_angle-2.ensures,
+  ← c.arc-a.ensures,
+  ← c.pick-b.ensures,
+  ← c.is_negative.ensures,
+  ← c.pick.ensures,
+)

@@ -4,36 +4,31 @@ use Rattle.fixed.proofs.arctangent.atan2.Goals as goal
 
 pub returns-then-is_nan : goal.returns-then-is_nan
 unfolding atan2
-returns-then-is_nan c = let f = c in
-    rw (← f.is_nan.ensures, ← f.is_nan-2.ensures, f.if-is_nan.true, c.nan.ensures)
+returns-then-is_nan c = rw (← c.is_nan.ensures, ← c.is_nan-2.ensures, c.if-is_nan.true, c.nan.ensures)
 
 pub returns-then-on_axis : goal.returns-then-on_axis
 unfolding atan2
-returns-then-on_axis c = let g = c in
-    let f = g in
-    rw (
-      ← f.is_nan.ensures,
-      ← f.is_nan-2.ensures,
-      f.if-is_nan.false,
-      ← g.on_axis.ensures,
-      g.if-on_axis.true,
-      ← g.is_negative-s.ensures,
-      ← c.axis_angle-b.ensures,
-      ← c.pick.ensures,
-    )
+returns-then-on_axis c = rw (
+  ← c.is_nan.ensures,
+  ← c.is_nan-2.ensures,
+  c.if-is_nan.false,
+  ← c.on_axis.ensures,
+  c.if-on_axis.true,
+  ← c.is_negative-s.ensures,
+  ← c.axis_angle-b.ensures,
+  ← c.pick.ensures,
+)
 
 pub returns : goal.returns
 unfolding atan2
-returns c = let g = c in
-    let f = g in
-    rw (
-      ← f.is_nan.ensures,
-      ← f.is_nan-2.ensures,
-      f.if-is_nan.false,
-      ← g.on_axis.ensures,
-      g.if-on_axis.false,
-      ← g.is_negative-s.ensures,
-      ← c.atan-a.ensures,
-      ← c.pick-2.ensures,
-      ← c.pick-3.ensures,
-    )
+returns c = rw (
+  ← c.is_nan.ensures,
+  ← c.is_nan-2.ensures,
+  c.if-is_nan.false,
+  ← c.on_axis.ensures,
+  c.if-on_axis.false,
+  ← c.is_negative-s.ensures,
+  ← c.atan-a.ensures,
+  ← c.pick-2.ensures,
+  ← c.pick-3.ensures,
+)

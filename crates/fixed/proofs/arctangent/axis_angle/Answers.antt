@@ -4,14 +4,12 @@ use Rattle.fixed.proofs.arctangent.axis_angle.Goals as goal
 
 pub returns : goal.returns
 unfolding axis_angle
-returns c = let f = c in
-    let p = f in
-    rw (
-      ← p.is_negative-s.ensures,
-      ← p.is_finite-far.ensures,
-      ← p.pick.ensures,
-      ← f.pick-across.ensures,
-      ← f.is_finite.ensures,
-      ← c.pick-2.ensures,
-      ← c.pick-3.ensures,
-    )
+returns c = rw (
+  ← c.is_negative-s.ensures,
+  ← c.is_finite-far.ensures,
+  ← c.pick.ensures,
+  ← c.pick-across.ensures,
+  ← c.is_finite.ensures,
+  ← c.pick-2.ensures,
+  ← c.pick-3.ensures,
+)

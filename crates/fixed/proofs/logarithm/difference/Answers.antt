@@ -1,6 +1,5 @@
 -- The difference of two numbers up to 4096 fits an i32.
 use native.Mathlib.Omega.{arith}
-use borrow.Author.Rules.{rules}
 use mir.Facts.{to_z-of_z}
 use Rattle.fixed.proofs.Differences.{small, difference_fits}
 use Rattle.fixed.proofs.logarithm.difference.Goals as goal

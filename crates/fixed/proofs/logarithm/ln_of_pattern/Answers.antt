@@ -1,7 +1,6 @@
 -- The fields of the pattern, and one test for the step at SQRT_2.
 use Prim.Native.Nat.{◌+◌, ◌/◌, ◌%◌, ◌^◌}
 use native.Mathlib.Omega.{arith}
-use borrow.Author.Rules.{rules}
 use Rattle.float.specs.Operators.{◌≺◌, f64}
 use Rattle.float.proofs.Patterns.{pattern_of_number}
 use Rattle.fixed.specs.Logarithm.{SQRT_2, ln_parts}

@@ -1,5 +1,4 @@
 -- What differs from itself is the NaN, whose pattern is the stated one; any other value has its own.
-use borrow.Author.Rules.{rules}
 use lib.Ieee.{to_bits}
 use Rattle.float.proofs.Patterns.{is_the_nan, is_number}
 use Rattle.float.proofs.bits.bits_of.Goals as goal

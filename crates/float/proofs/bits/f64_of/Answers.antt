@@ -1,6 +1,5 @@
 -- A pattern above infinity's, without its sign, is a NaN's; any other is read as it stands.
 use mathlib.Core.Path.{sym}
-use borrow.Author.Rules.{rules}
 use lib.Ieee.{of_bits, div}
 use Rattle.float.proofs.Patterns.{pattern_of_nan, pattern_of_number}
 use Rattle.float.proofs.bits.f64_of.Goals as goal

@@ -1,6 +1,5 @@
 -- The sign bit is the top bit of the pattern, and the NaN's pattern has none.
-use mathlib.Core.Path.{◌≡◌, ◌∙◌, ap, subst, sym}
-use Prim.Native.Nat.{ℕ}
+use mathlib.Core.Path.{◌∙◌, ap, subst, sym}
 use lib.Dec.{T, leb}
 use lib.Ieee.{binary64, top}
 use Rattle.float.proofs.SignBit.{top_bit}

@@ -4,5 +4,4 @@ use Rattle.guam_projection.proofs.GuamProjection.derived.Goals as goal
 
 pub returns : goal.returns
 unfolding derived
-returns c = let lat0 = c in
-    rw (← lat0.e2-e2.ensures, ← c.root.ensures, ← lat0.sin_cos-sc.ensures.0, ← lat0.sin_cos-sc.ensures.1, ← c.meridian_arc.ensures)
+returns c = rw (← c.e2-e2.ensures, ← c.root.ensures, ← c.sin_cos-sc.ensures.0, ← c.sin_cos-sc.ensures.1, ← c.meridian_arc.ensures)

@@ -5,7 +5,7 @@ use Rattle.guam_projection.proofs.GuamProjection.forward.Goals as goal
 
 pub returns-in-Passed : goal.returns-in-Passed
 unfolding forward entered
-returns-in-Passed c = let arm = c in rw (← arm.enter.ensures, arm.in-Passed.is) c.projected.ensures
+returns-in-Passed c = rw (← c.enter.ensures, c.in-Passed.is) c.projected.ensures
 
 pub returns-in-Refused : goal.returns-in-Refused
 unfolding forward entered

@@ -4,4 +4,4 @@ use Rattle.guam_projection.proofs.GuamProjection.place.Goals as goal
 
 pub returns : goal.returns
 unfolding place at_round
-returns c = let phi = c in rw (← phi.rounds-last.ensures, ← phi.cos.ensures)
+returns c = rw (← c.rounds-last.ensures, ← c.cos.ensures)

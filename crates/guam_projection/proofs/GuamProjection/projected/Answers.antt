@@ -4,7 +4,5 @@ use Rattle.guam_projection.proofs.GuamProjection.projected.Goals as goal
 
 pub returns : goal.returns
 unfolding projected
-returns c = let fields = c in
-    let arc = fields in
-    let phi = arc.sin_cos-phi.ensures in
-    rw (← phi.0, ← phi.1, ← arc.root-t.ensures, ← arc.meridian_arc.ensures) c.ensure_finite_xy.ensures
+returns c = let phi = c.sin_cos-phi.ensures in
+    rw (← phi.0, ← phi.1, ← c.root-t.ensures, ← c.meridian_arc.ensures) c.ensure_finite_xy.ensures

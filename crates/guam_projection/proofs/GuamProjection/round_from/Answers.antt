@@ -5,6 +5,5 @@ use Rattle.guam_projection.proofs.GuamProjection.round_from.Goals as goal
 
 pub returns : goal.returns
 unfolding round_from tangent
-returns c = let t = c in
-    let sc = t.sin_cos-sc.ensures in
-    rw (← sc.0, ← sc.1, ← t.root-t.ensures, ← c.inverse_meridian_arc.ensures)
+returns c = let sc = c.sin_cos-sc.ensures in
+    rw (← sc.0, ← sc.1, ← c.root-t.ensures, ← c.inverse_meridian_arc.ensures)

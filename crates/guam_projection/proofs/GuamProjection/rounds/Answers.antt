@@ -1,9 +1,8 @@
 -- The rounds that are left give what all of them give.
-use Prim.Native.Nat.{◌≤◌, ◌-◌}
-use mathlib.Core.Path.{◌≡◌, refl, sym, ◌∙◌}
+use mathlib.Core.Path.{refl, sym, ◌∙◌}
 use native.Mathlib.Omega.{arith}
 use borrow.Author.Rules.{rules}
-use Rattle.guam_projection.specs.GuamProjection.{round_from, repeated, rounds, STEPS}
+use Rattle.guam_projection.specs.GuamProjection.{rounds}
 use Rattle.guam_projection.proofs.Rounds.{none_left, one_more}
 use Rattle.guam_projection.proofs.GuamProjection.rounds.Goals as goal
 

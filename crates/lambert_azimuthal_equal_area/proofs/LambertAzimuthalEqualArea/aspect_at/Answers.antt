@@ -8,10 +8,8 @@ returns-then-abs c = rw (← c.abs.ensures, c.if-abs.true)
 
 pub returns-then-abs-2 : goal.returns-then-abs-2
 unfolding aspect_at
-returns-then-abs-2 c = let north = c in
-    rw (← north.abs.ensures, north.if-abs.false, ← c.abs-else-abs.ensures, c.if-abs-2.true)
+returns-then-abs-2 c = rw (← c.abs.ensures, c.if-abs.false, ← c.abs-else-abs.ensures, c.if-abs-2.true)
 
 pub returns-else-abs-2 : goal.returns-else-abs-2
 unfolding aspect_at
-returns-else-abs-2 c = let north = c in
-    rw (← north.abs.ensures, north.if-abs.false, ← c.abs-else-abs.ensures, c.if-abs-2.false)
+returns-else-abs-2 c = rw (← c.abs.ensures, c.if-abs.false, ← c.abs-else-abs.ensures, c.if-abs-2.false)

@@ -4,19 +4,16 @@ use Rattle.lambert_azimuthal_equal_area.proofs.LambertAzimuthalEqualArea.derived
 
 pub returns : goal.returns
 unfolding derived
-returns c = let beta0 = c in
-    let q0 = beta0 in
-    let q_p = q0 in
-    rw (
-      ← q_p.e2-e2.ensures,
-      ← q_p.authalic_q-q_p.ensures,
-      ← q0.root.ensures,
-      ← q0.authalic_q-q0.ensures,
-      ← beta0.authalic_latitude.ensures,
-      ← beta0.sin_cos-beta0.ensures.0,
-      ← beta0.sin_cos-beta0.ensures.1,
-      ← c.sin_cos-origin.ensures.0,
-      ← c.sin_cos-origin.ensures.1,
-      ← c.aspect_at-aspect.ensures,
-      ← c.scale.ensures,
-    )
+returns c = rw (
+  ← c.e2-e2.ensures,
+  ← c.authalic_q-q_p.ensures,
+  ← c.root.ensures,
+  ← c.authalic_q-q0.ensures,
+  ← c.authalic_latitude.ensures,
+  ← c.sin_cos-beta0.ensures.0,
+  ← c.sin_cos-beta0.ensures.1,
+  ← c.sin_cos-origin.ensures.0,
+  ← c.sin_cos-origin.ensures.1,
+  ← c.aspect_at-aspect.ensures,
+  ← c.scale.ensures,
+)

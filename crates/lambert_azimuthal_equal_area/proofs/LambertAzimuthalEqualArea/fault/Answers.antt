@@ -4,11 +4,10 @@ use Rattle.lambert_azimuthal_equal_area.proofs.LambertAzimuthalEqualArea.fault.G
 
 pub returns : goal.returns
 unfolding fault
-returns c = let scale = c in
-    rw (
-      ← scale.validate_positive-polar_q.ensures,
-      ← scale.validate_origin-origin.ensures,
-      ← scale.validate_positive-scale.ensures,
-      ← c.or_else.ensures,
-    )
+returns c = rw (
+  ← c.validate_positive-polar_q.ensures,
+  ← c.validate_origin-origin.ensures,
+  ← c.validate_positive-scale.ensures,
+  ← c.or_else.ensures,
+)
     c.or_else-2.ensures

@@ -4,28 +4,24 @@ use Rattle.lambert_azimuthal_equal_area.proofs.LambertAzimuthalEqualArea.oblique
 
 pub returns-then-denom : goal.returns-then-denom
 unfolding oblique_forward
-returns-then-denom c = let beta = c in
-    rw (
-      ← beta.sin_cos-delta.ensures.0,
-      ← beta.sin_cos-delta.ensures.1,
-      ← beta.authalic_latitude.ensures,
-      ← beta.sin_cos-beta.ensures.0,
-      ← beta.sin_cos-beta.ensures.1,
-      c.if-denom.true,
-    )
+returns-then-denom c = rw (
+  ← c.sin_cos-delta.ensures.0,
+  ← c.sin_cos-delta.ensures.1,
+  ← c.authalic_latitude.ensures,
+  ← c.sin_cos-beta.ensures.0,
+  ← c.sin_cos-beta.ensures.1,
+  c.if-denom.true,
+)
 
 pub returns-else-denom : goal.returns-else-denom
 unfolding oblique_forward
-returns-else-denom c = let radius = c in
-    let test = radius in
-    let beta = test in
-    rw (
-      ← beta.sin_cos-delta.ensures.0,
-      ← beta.sin_cos-delta.ensures.1,
-      ← beta.authalic_latitude.ensures,
-      ← beta.sin_cos-beta.ensures.0,
-      ← beta.sin_cos-beta.ensures.1,
-      test.if-denom.false,
-      ← radius.root.ensures,
-    )
+returns-else-denom c = rw (
+  ← c.sin_cos-delta.ensures.0,
+  ← c.sin_cos-delta.ensures.1,
+  ← c.authalic_latitude.ensures,
+  ← c.sin_cos-beta.ensures.0,
+  ← c.sin_cos-beta.ensures.1,
+  c.if-denom.false,
+  ← c.root.ensures,
+)
     c.ensure_finite_xy.ensures

@@ -8,12 +8,12 @@ returns-then-self c = rw (c.spherical_formula.ensures, c.if-self.true)
 
 pub returns-in-NorthPolar : goal.returns-in-NorthPolar
 unfolding place ellipsoidal_formula
-returns-in-NorthPolar c = let arm = c in rw (c.north_polar_formula.ensures, arm.if-self.false, arm.in-NorthPolar.is)
+returns-in-NorthPolar c = rw (c.north_polar_formula.ensures, c.if-self.false, c.in-NorthPolar.is)
 
 pub returns-in-SouthPolar : goal.returns-in-SouthPolar
 unfolding place ellipsoidal_formula
-returns-in-SouthPolar c = let arm = c in rw (c.south_polar_formula.ensures, arm.if-self.false, arm.in-SouthPolar.is)
+returns-in-SouthPolar c = rw (c.south_polar_formula.ensures, c.if-self.false, c.in-SouthPolar.is)
 
 pub returns-in-Oblique : goal.returns-in-Oblique
 unfolding place ellipsoidal_formula
-returns-in-Oblique c = let arm = c in rw (c.oblique_formula.ensures, arm.if-self.false, arm.in-Oblique.is)
+returns-in-Oblique c = rw (c.oblique_formula.ensures, c.if-self.false, c.in-Oblique.is)

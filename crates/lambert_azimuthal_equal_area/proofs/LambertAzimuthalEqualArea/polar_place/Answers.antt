@@ -5,20 +5,14 @@ use Rattle.lambert_azimuthal_equal_area.proofs.LambertAzimuthalEqualArea.polar_p
 
 pub returns-in-AtCentre : goal.returns-in-AtCentre
 unfolding polar_place
-returns-in-AtCentre c = let arm = c in
-    let click = arm in
-    rw (← c.geodetic_from_authalic.ensures)
-    (at_centre _ _ _ _ _ click.abs.ensures click.judge.ensures arm.in-AtCentre.is)
+returns-in-AtCentre c = rw (← c.geodetic_from_authalic.ensures)
+    (at_centre _ _ _ _ _ c.abs.ensures c.judge.ensures c.in-AtCentre.is)
 
 pub returns-in-InFrame : goal.returns-in-InFrame
 unfolding polar_place
-returns-in-InFrame c = let click = c in
-    in_frame _ _ _ _ _ click.abs.ensures click.judge.ensures c.in-InFrame.is
+returns-in-InFrame c = in_frame _ _ _ _ _ c.abs.ensures c.judge.ensures c.in-InFrame.is
 
 pub returns-in-OnMap : goal.returns-in-OnMap
 unfolding polar_place
-returns-in-OnMap c = let beta = c in
-    let arm = beta in
-    let click = arm in
-    rw (← beta.bounded_arcsine-beta.ensures, ← c.geodetic_from_authalic-in-OnMap.ensures)
-    (on_map _ _ _ _ _ click.abs.ensures click.judge.ensures arm.in-OnMap.is)
+returns-in-OnMap c = rw (← c.bounded_arcsine-beta.ensures, ← c.geodetic_from_authalic-in-OnMap.ensures)
+    (on_map _ _ _ _ _ c.abs.ensures c.judge.ensures c.in-OnMap.is)

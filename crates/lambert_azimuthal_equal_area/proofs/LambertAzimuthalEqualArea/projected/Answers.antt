@@ -8,15 +8,12 @@ returns-then-self c = rw (c.spherical_forward.ensures, c.if-self.true)
 
 pub returns-in-NorthPolar : goal.returns-in-NorthPolar
 unfolding projected ellipsoidal_forward
-returns-in-NorthPolar c = let q = c in
-    rw (c.north_polar_forward.ensures, q.authalic_q-q.ensures, q.if-self.false, c.in-NorthPolar.is)
+returns-in-NorthPolar c = rw (c.north_polar_forward.ensures, c.authalic_q-q.ensures, c.if-self.false, c.in-NorthPolar.is)
 
 pub returns-in-SouthPolar : goal.returns-in-SouthPolar
 unfolding projected ellipsoidal_forward
-returns-in-SouthPolar c = let q = c in
-    rw (c.south_polar_forward.ensures, q.authalic_q-q.ensures, q.if-self.false, c.in-SouthPolar.is)
+returns-in-SouthPolar c = rw (c.south_polar_forward.ensures, c.authalic_q-q.ensures, c.if-self.false, c.in-SouthPolar.is)
 
 pub returns-in-Oblique : goal.returns-in-Oblique
 unfolding projected ellipsoidal_forward
-returns-in-Oblique c = let q = c in
-    rw (c.oblique_forward.ensures, q.authalic_q-q.ensures, q.if-self.false, c.in-Oblique.is)
+returns-in-Oblique c = rw (c.oblique_forward.ensures, c.authalic_q-q.ensures, c.if-self.false, c.in-Oblique.is)

@@ -4,12 +4,10 @@ use Rattle.lambert_azimuthal_equal_area.proofs.LambertAzimuthalEqualArea.south_p
 
 pub returns : goal.returns
 unfolding south_polar_forward
-returns c = let rho = c in
-    let rest = rho in
-    rw (
-      ← rest.sin_cos-delta.ensures.0,
-      ← rest.sin_cos-delta.ensures.1,
-      ← rest.max_zero.ensures,
-      ← rest.root.ensures,
-    )
+returns c = rw (
+  ← c.sin_cos-delta.ensures.0,
+  ← c.sin_cos-delta.ensures.1,
+  ← c.max_zero.ensures,
+  ← c.root.ensures,
+)
     c.ensure_finite_xy.ensures

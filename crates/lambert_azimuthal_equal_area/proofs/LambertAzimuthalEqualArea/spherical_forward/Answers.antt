@@ -4,26 +4,22 @@ use Rattle.lambert_azimuthal_equal_area.proofs.LambertAzimuthalEqualArea.spheric
 
 pub returns-then-denom : goal.returns-then-denom
 unfolding spherical_forward
-returns-then-denom c = let delta = c in
-    rw (
-      ← delta.sin_cos-delta.ensures.0,
-      ← delta.sin_cos-delta.ensures.1,
-      ← c.sin_cos-phi.ensures.0,
-      ← c.sin_cos-phi.ensures.1,
-      c.if-denom.true,
-    )
+returns-then-denom c = rw (
+  ← c.sin_cos-delta.ensures.0,
+  ← c.sin_cos-delta.ensures.1,
+  ← c.sin_cos-phi.ensures.0,
+  ← c.sin_cos-phi.ensures.1,
+  c.if-denom.true,
+)
 
 pub returns-else-denom : goal.returns-else-denom
 unfolding spherical_forward
-returns-else-denom c = let radius = c in
-    let test = radius in
-    let phi = test in
-    rw (
-      ← phi.sin_cos-delta.ensures.0,
-      ← phi.sin_cos-delta.ensures.1,
-      ← phi.sin_cos-phi.ensures.0,
-      ← phi.sin_cos-phi.ensures.1,
-      test.if-denom.false,
-      ← radius.root.ensures,
-    )
+returns-else-denom c = rw (
+  ← c.sin_cos-delta.ensures.0,
+  ← c.sin_cos-delta.ensures.1,
+  ← c.sin_cos-phi.ensures.0,
+  ← c.sin_cos-phi.ensures.1,
+  c.if-denom.false,
+  ← c.root.ensures,
+)
     c.ensure_finite_xy.ensures

@@ -4,11 +4,11 @@ use Rattle.lambert_azimuthal_equal_area.proofs.LambertAzimuthalEqualArea.validat
 
 pub returns-then-abs : goal.returns-then-abs
 unfolding validate_origin
-returns-then-abs c = let size = c in rw (size.in-Oblique.is, ← size.abs.ensures, c.if-abs.true)
+returns-then-abs c = rw (c.in-Oblique.is, ← c.abs.ensures, c.if-abs.true)
 
 pub returns-else-abs : goal.returns-else-abs
 unfolding validate_origin
-returns-else-abs c = let size = c in rw (size.in-Oblique.is, ← size.abs.ensures, c.if-abs.false)
+returns-else-abs c = rw (c.in-Oblique.is, ← c.abs.ensures, c.if-abs.false)
 
 pub returns-in-NorthPolar : goal.returns-in-NorthPolar
 unfolding validate_origin

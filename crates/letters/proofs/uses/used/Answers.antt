@@ -4,6 +4,5 @@ use Rattle.letters.proofs.uses.used.Goals as goal
 
 pub returns : goal.returns
 unfolding used
-returns c = let parallels = c in
-    rw (← parallels.uses_parallels-parallels.ensures, ← c.uses_lat0.ensures)
+returns c = rw (← c.uses_parallels-parallels.ensures, ← c.uses_lat0.ensures)
     (rw (← c.pick.ensures, ← c.pick-2.ensures, ← c.pick-3.ensures))

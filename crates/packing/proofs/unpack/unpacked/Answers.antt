@@ -6,5 +6,4 @@ use Rattle.packing.proofs.unpack.unpacked.Goals as goal
 
 pub returns : goal.returns
 unfolding from unpacked
-returns c = let built = c in
-    rw (← built.built_of-built.ensures, ← c.area_of-area.ensures) refl
+returns c = rw (← c.built_of-built.ensures, ← c.area_of-area.ensures) refl

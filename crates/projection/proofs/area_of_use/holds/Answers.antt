@@ -14,5 +14,4 @@ returns c = let edges : Edges c.args.area = let fields = c.well_formed.0.1.1 in
       south_held = subst T (sym fields.1.1.0.1) tt;
       north_held = subst T (sym fields.1.1.1.0.1) tt;
     } in
-    let start = c in
-    (refl, holds_within _ _ _ (edges) (subst T (sym start.well_formed.1.0.1) tt) (subst T (sym start.well_formed.1.1.0.1) tt))
+    (refl, holds_within _ _ _ (edges) (subst T (sym c.well_formed.1.0.1) tt) (subst T (sym c.well_formed.1.1.0.1) tt))

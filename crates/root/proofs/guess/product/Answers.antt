@@ -1,5 +1,5 @@
 -- Neither factor reaches 2 ^ 32.
-use Rattle.std.proofs.Common.{◌^◌, le_of_lt, mul-le-mul_right, mul-le-mul_left, arith}
+use Rattle.std.proofs.Common.{le_of_lt, mul-le-mul_right, mul-le-mul_left, arith}
 use Rattle.root.proofs.guess.product.Goals as goal
 
 pub overflow_mul-result : goal.overflow_mul-result

@@ -1,5 +1,5 @@
 -- The root of m shifted by p.
-use Rattle.std.proofs.Common.{◌≡◌, ◌*◌, ◌%◌, ◌^◌, arith, rules}
+use Rattle.std.proofs.Common.{◌≡◌, ◌*◌, ◌%◌, ◌^◌, arith}
 use Rattle.root.proofs.RootUnits.{shifted, shifted_lt, shifted_ge}
 use Rattle.root.proofs.near.near_root.Goals as goal
 

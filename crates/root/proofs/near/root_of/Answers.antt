@@ -1,5 +1,5 @@
 -- The guess, or the number after it, if `is_near` finds it nearest; else the root digit by digit.
-use Rattle.std.proofs.Common.{ℕ, ◌/◌, ◌%◌, ◌^◌, ◌≤◌, mul-le-mul, arith, rules}
+use Rattle.std.proofs.Common.{ℕ, ◌/◌, ◌%◌, ◌^◌, ◌≤◌, mul-le-mul, arith}
 use Rattle.root.proofs.NearWhole.{near_left}
 use Rattle.root.proofs.near.root_of.Goals as goal
 

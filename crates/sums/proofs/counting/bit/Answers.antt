@@ -4,7 +4,6 @@ use mathlib.Core.Bool.{Bool, true, false}
 use Prim.Native.Nat.{◌≤◌}
 use lib.Dec.{lit≤}
 use mir.Val.{bool_byte}
-use borrow.Author.Rules.{rules}
 use Rattle.sums.specs.Counting.{bit}
 use Rattle.sums.proofs.counting.bit.Goals as goal
 

@@ -1,7 +1,6 @@
 -- The table's rule, computed on the code's own array.
 use mathlib.Core.Path.{refl}
 use native.Mathlib.Omega.{arith}
-use borrow.Author.Rules.{rules}
 use lib.Ieee.{of_bits, round}
 use Rattle.sums.specs.Factorials.{factorial, inverse_factorial}
 use Rattle.sums.proofs.FactorialTable.{tabulate, entry}

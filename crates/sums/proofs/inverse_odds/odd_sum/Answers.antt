@@ -1,5 +1,4 @@
 -- One nested sum of thirteen literal quotients.
-use borrow.Author.Rules.{rules}
 use Rattle.sums.proofs.inverse_odds.odd_sum.Goals as goal
 
 pub returns : goal.returns

@@ -1,11 +1,8 @@
 -- By the lemma over the degree, for sine, cosine, arctangent and ln alike. Invariant: `sum` is the nested sum of the coefficients from i on.
-use mathlib.Core.Path.{◌≡◌, sym}
-use Prim.Native.Nat.{◌<◌, ◌+◌, ◌-◌}
-use native.Mathlib.Omega.{arith}
-use borrow.Author.Rules.{rules}
+use mathlib.Core.Path.{◌≡◌}
+use Prim.Native.Nat.{◌<◌}
 use lib.ListN.{length, drop}
 use Rattle.sums.specs.NestedSum.{nested}
-use Rattle.sums.proofs.NestedSteps.{nested_none, nested_degree}
 use Rattle.sums.proofs.nested_sum.nested.Given as goal
 
 abbrev pub invariant-loop-i : goal.invariant-loop-i

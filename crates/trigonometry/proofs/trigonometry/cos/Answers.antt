@@ -1,20 +1,17 @@
 -- A finite x is reduced as the definition says, and its sine is taken a quarter turn further; any other x gives the NaN.
-use borrow.Author.Rules.{rules}
 use Rattle.trigonometry.specs.Trigonometry.{cosine, quarters_of, rest_of}
 use Rattle.trigonometry.proofs.Quarters.{quarter_more}
 use Rattle.trigonometry.proofs.trigonometry.cos.Goals as goal
 
 pub returns-then-is_finite : goal.returns-then-is_finite
 unfolding cosine
-returns-then-is_finite c = let q = c in
-    let f = q in
-    let x = f.args.x in
+returns-then-is_finite c = let x = c.args.x in
     rw (
-      ← f.is_finite.ensures,
-      f.if-is_finite.true,
+      ← c.is_finite.ensures,
+      c.if-is_finite.true,
       ← quarter_more (quarters_of x) (rest_of x),
-      ← q.reduced-q.ensures.0,
-      ← q.reduced-q.ensures.1,
+      ← c.reduced-q.ensures.0,
+      ← c.reduced-q.ensures.1,
       ← c.sine_at.ensures,
     )
 

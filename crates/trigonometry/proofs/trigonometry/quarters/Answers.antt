@@ -1,10 +1,8 @@
 -- Four tests, counted.
 use native.Mathlib.Omega.{arith}
-use borrow.Author.Rules.{rules}
 use Rattle.trigonometry.specs.Trigonometry.{quarters}
 use Rattle.trigonometry.proofs.trigonometry.quarters.Goals as goal
 
 pub returns : goal.returns
 unfolding quarters
-returns c = let s = c in
-    (rw (← s.bit.ensures.0, ← s.bit-2.ensures.0, ← c.bit-3.ensures.0, ← c.bit-4.ensures.0), omega arith)
+returns c = (rw (← c.bit.ensures.0, ← c.bit-2.ensures.0, ← c.bit-3.ensures.0, ← c.bit-4.ensures.0), omega arith)

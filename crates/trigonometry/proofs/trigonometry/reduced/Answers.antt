@@ -5,6 +5,5 @@ use Rattle.trigonometry.proofs.trigonometry.reduced.Goals as goal
 
 pub returns : goal.returns
 unfolding quarters_of rest_of
-returns c = let z = c in
-    let k = c.quarters-k.ensures.0 in
-    (rw (← z.abs.ensures, ← z.within_turn-z.ensures, ← k), rw (← z.abs.ensures, ← z.within_turn-z.ensures, ← k, ← c.rest-r.ensures), omega arith)
+returns c = let k = c.quarters-k.ensures.0 in
+    (rw (← c.abs.ensures, ← c.within_turn-z.ensures, ← k), rw (← c.abs.ensures, ← c.within_turn-z.ensures, ← k, ← c.rest-r.ensures), omega arith)

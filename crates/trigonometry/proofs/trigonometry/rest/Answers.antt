@@ -1,6 +1,5 @@
 -- The operations are the definition's, in its order.
 use mathlib.Core.Path.{refl}
-use borrow.Author.Rules.{rules}
 use Rattle.trigonometry.specs.Trigonometry.{rest}
 use Rattle.trigonometry.proofs.trigonometry.rest.Goals as goal
 

@@ -4,17 +4,15 @@ use Rattle.trigonometry.proofs.trigonometry.sin.Goals as goal
 
 pub returns-then-is_finite : goal.returns-then-is_finite
 unfolding sine
-returns-then-is_finite c = let q = c in
-    let f = q in
-    rw (
-      ← f.is_finite.ensures,
-      f.if-is_finite.true,
-      ← q.reduced-q.ensures.0,
-      ← q.reduced-q.ensures.1,
-      ← c.sine_at-s.ensures,
-      ← c.is_negative.ensures,
-      ← c.pick.ensures,
-    )
+returns-then-is_finite c = rw (
+  ← c.is_finite.ensures,
+  c.if-is_finite.true,
+  ← c.reduced-q.ensures.0,
+  ← c.reduced-q.ensures.1,
+  ← c.sine_at-s.ensures,
+  ← c.is_negative.ensures,
+  ← c.pick.ensures,
+)
 
 pub returns-else-is_finite : goal.returns-else-is_finite
 unfolding sine
