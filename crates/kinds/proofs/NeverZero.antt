@@ -12,7 +12,6 @@ use Rattle.ellipsoid.proofs.NeverZero as ellipsoid_proofs
 use Rattle.projection.specs.AreaOfUse.{validate_area, validate_place}
 use Rattle.projection.specs.Checks.{or_else, guard, validate_lon_lat}
 use Rattle.projection.specs.Ends.{finish}
-use Rattle.projection.specs.declared.Answer.{Answer}
 use Rattle.projection.specs.declared.Answer.TheVariants as answered
 use Rattle.projection.specs.declared.Area.{Area}
 use Rattle.projection.specs.declared.AreaOfUse.TheVariants.{Inside}

@@ -1,7 +1,7 @@
 -- What a second inverse gives: 30 for the clicks that document 02 names and for no other, and elsewhere what the first gives; so all that it answers lies on the map.
 use Prim.Native.Nat.{ℕ}
 use mathlib.Core.Path.{◌≡◌, refl, sym, ap, ◌∙◌}
-use mathlib.Core.Bool.{Bool, true, false, cond}
+use mathlib.Core.Bool.{Bool, true, false}
 use mathlib.Core.List.{List}
 use mathlib.Core.Logic.{◌⊎◌, inl, inr}
 use native.Mathlib.Omega.{arith}
@@ -25,7 +25,6 @@ use Rattle.kinds.specs.OffTheMap.{off_map}
 use Rattle.kinds.specs.declared.Built.{Built}
 use Rattle.kinds.specs.declared.Built.TheVariants.{Lambert, Albers, Equal, Cassini, Polyconic, Guam, Refused}
 use Rattle.kinds.specs.declared.Projection.{Projection}
-use Rattle.kinds.specs.declared.SecondInverse.{SecondInverse}
 use Rattle.kinds.specs.declared.SecondInverse.TheVariants.{Gives, Missing}
 
 one_answer : (a b : Answer) → Gives a ≡ Gives b → a ≡ b

@@ -1,10 +1,10 @@
 // What is said on which failure.
-ghost use Rattle.std.specs.Prelude.{◌≡◌, cond};
+ghost use Rattle.std.specs.Prelude.{◌≡◌, ◌≤◌, cond, length};
 ghost use Rattle.lenthuc.specs.Failure.{message};
 ghost use Rattle.lenthuc.specs.declared.failure.Failure.TheVariants.{Nothing, Unread, Unwritten};
 ghost use Rattle.sheet.specs.Written.{Written};
 
-#[derive(Drop)]
+#[derive(Clone, Copy)]
 pub(crate) enum Failure {
     Nothing,
     Unread,
@@ -35,13 +35,23 @@ pub(crate) fn write_failure(written: bool) -> Failure
     }
 }
 
+// Copies a text to the buffer's start, and gives its length.
+fn copy(message: &[u8], text: &mut [u8; MESSAGE]) -> usize
+    requires { length message.now ≤ length text.old }
+    ensures { Written text.old 0 message.now result text.new }
+{
+    let n = message.len();
+    text[..n].copy_from_slice(message);
+    n
+}
+
 // Writes the message of a failure, and gives its length.
 pub(crate) fn put_message(text: &mut [u8; MESSAGE], failure: Failure) -> usize
     ensures { Written text.old 0 (message failure) result text.new }
 {
     match failure {
         Failure::Nothing => 0,
-        Failure::Unread => bytes::copy(b"lenthuc: the sheet could not be read to its end\n", text),
-        Failure::Unwritten => bytes::copy(b"lenthuc: the answers could not be written\n", text),
+        Failure::Unread => copy(b"lenthuc: the sheet could not be read to its end\n", text),
+        Failure::Unwritten => copy(b"lenthuc: the answers could not be written\n", text),
     }
 }

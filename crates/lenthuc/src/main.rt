@@ -1,5 +1,7 @@
 // The sheet program: answers the sheet on standard input on standard output. Only reading and writing stand outside a contract.
-ghost use Rattle.std.specs.Prelude.{◌≡◌, length};
+#![tactic(auto)]
+
+ghost use Rattle.std.specs.Prelude.{◌≡◌, ◌≤◌, length};
 
 mod answers;
 mod failure;
@@ -7,6 +9,7 @@ mod failure;
 use answers::{INPUT, answer_input};
 use failure::{Failure, MESSAGE, put_message, read_failure, write_failure};
 use sheet::ROOM;
+use std::io::{Read, Write};
 
 fn input_buffer() -> [u8; INPUT]
     ensures { INPUT ≡ length result }
@@ -20,28 +23,62 @@ fn output_buffer() -> [u8; ROOM]
     [0; ROOM]
 }
 
-// A program has no exit status in Rattle, so what failed is told on standard error.
-fn say(failure: Failure) {
+// What failed is told on standard error alone: the exit status stays 0. Where that cannot be written either, nothing is left to do.
+fn say(told: &mut impl Write, failure: Failure) {
     let mut text: [u8; MESSAGE] = [0; MESSAGE];
     let n = put_message(&mut text, failure);
-    io::write_all(2, &text[..n]);
+    let _ = told.write_all(&text[..n]);
 }
 
-// A failed read looks like the end of the input, so the end is read once more.
-fn reads_more(n: usize) -> bool {
+// What was read of a sheet: so many bytes, and whether more than those stood there or could not be read.
+#[derive(Clone, Copy)]
+struct Reading {
+    count: usize,
+    more: bool,
+}
+
+// Whether bytes come after the end of the input, or it cannot be told.
+fn reads_more(reader: &mut impl Read) -> bool {
     let mut next: [u8; 1] = [0; 1];
-    if n < INPUT {
-        libc::read(0, &mut next) != 0
-    } else {
-        false
+    match reader.read(&mut next) {
+        Ok(0) => false,
+        _ => true,
     }
 }
 
-fn main() {
+// Reads until the buffer is full, the input ends or a read fails.
+fn read_sheet(reader: &mut impl Read, input: &mut [u8]) -> Reading
+    ensures { result.count ≤ length input.new }
+{
+    let mut n = 0;
+    while n < input.len() {
+        match reader.read(&mut input[n..]) {
+            Ok(0) => {
+                return Reading {
+                    count: n,
+                    more: reads_more(reader),
+                };
+            }
+            Ok(more) => n += more,
+            Err(_) => return Reading {
+                count: n,
+                more: true,
+            },
+        }
+    }
+    Reading {
+        count: n,
+        more: false,
+    }
+}
+
+fn main(rt: HostRuntime) {
     let mut input = input_buffer();
     let mut output = output_buffer();
-    let n = io::read_full(0, &mut input);
-    say(read_failure(reads_more(n)));
-    let w = answer_input(&input, n, &mut output);
-    say(write_failure(io::write_all(1, &output[..w])));
+    let reading = read_sheet(&mut rt.stdin(), &mut input);
+    let mut told = rt.stderr();
+    say(&mut told, read_failure(reading.more));
+    let w = answer_input(&input, reading.count, &mut output);
+    let written = rt.stdout().write_all(&output[..w]).is_ok();
+    say(&mut told, write_failure(written));
 }

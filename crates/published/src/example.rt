@@ -2,16 +2,16 @@
 use ellipsoid::{Ellipsoid, deg_to_rad, rad_to_deg};
 use float::abs;
 use letters::{Kind, Settings, Way};
-use libc::STDOUT_FILENO;
 use projection::Answer;
+use std::io;
 
 // Longitude and latitude in degrees, or easting and northing.
-#[derive(Drop)]
+#[derive(Clone, Copy)]
 pub(crate) struct Pair(pub f64, pub f64);
 
 // What a document prints of one point. An answer may be off by half a unit of the last digit that counts: `length` of the
 // easting and northing, `angle`, in degrees, of what the inverse makes of them as printed.
-#[derive(Drop)]
+#[derive(Clone, Copy)]
 pub(crate) struct Example {
     pub kind: Kind,
     pub ellipsoid: Ellipsoid,
@@ -29,7 +29,7 @@ pub(crate) const NO_PARALLELS: Pair = Pair(0.0, 0.0);
 pub(crate) const NO_OFFSETS: Pair = Pair(0.0, 0.0);
 
 // How many answers agree with what is printed, and how many do not.
-#[derive(Drop)]
+#[derive(Clone, Copy)]
 pub(crate) struct Tally {
     pub held: u64,
     pub differ: u64,
@@ -53,67 +53,72 @@ fn project(way: Way, e: Example, u: f64, v: f64) -> Answer {
 }
 
 // Whether an answer is within a distance of what is printed. It writes which.
-fn is_held(name: &[u8], ours: f64, printed: f64, within: f64) -> bool {
-    io::write_all(STDOUT_FILENO, name);
+fn is_held(rt: &impl Print, name: &[u8], ours: f64, printed: f64, within: f64) -> io::Result<bool> {
+    rt.write_all(name)?;
     if abs(ours - printed) <= within {
-        io::write_all(STDOUT_FILENO, b" held");
-        return true;
+        rt.write_all(b" held")?;
+        return Ok(true);
     }
-    io::write_all(STDOUT_FILENO, b" differs");
-    false
+    rt.write_all(b" differs")?;
+    Ok(false)
 }
 
 // Ends the line, and counts one answer more.
-fn counted(tally: Tally, first: bool, second: bool) -> Tally {
-    io::write_all(STDOUT_FILENO, b"\n");
+fn counted(rt: &impl Print, tally: Tally, first: bool, second: bool) -> io::Result<Tally> {
+    rt.write_all(b"\n")?;
     if first & second {
-        return Tally {
+        return Ok(Tally {
             held: plus_one(tally.held),
             differ: tally.differ,
-        };
+        });
     }
-    Tally {
+    Ok(Tally {
         held: tally.held,
         differ: plus_one(tally.differ),
-    }
+    })
 }
 
-fn refused(tally: Tally, number: u8) -> Tally {
-    io::write_all(STDOUT_FILENO, b" refused, ");
-    io::print_decimal(STDOUT_FILENO, number as u64);
-    counted(tally, false, false)
+fn refused(rt: &impl Print, tally: Tally, number: u8) -> io::Result<Tally> {
+    print!(rt; " refused, {number}")?;
+    counted(rt, tally, false, false)
 }
 
-pub(crate) fn forward(name: &[u8], e: Example, tally: Tally) -> Tally {
-    io::write_all(STDOUT_FILENO, name);
-    io::write_all(STDOUT_FILENO, b", forward:");
+pub(crate) fn forward(rt: &impl Print, name: &[u8], e: Example, tally: Tally) -> io::Result<Tally> {
+    rt.write_all(name)?;
+    rt.write_all(b", forward:")?;
     let lon = deg_to_rad(e.lon_lat.0);
     let lat = deg_to_rad(e.lon_lat.1);
     let answer = project(Way::Forward, e, lon, lat);
     match answer {
         Answer::Pair(x, y) => {
-            let first = is_held(b" x", x, e.x_y.0, e.length);
-            let second = is_held(b", y", y, e.x_y.1, e.length);
-            counted(tally, first, second)
+            let first = is_held(rt, b" x", x, e.x_y.0, e.length)?;
+            let second = is_held(rt, b", y", y, e.x_y.1, e.length)?;
+            counted(rt, tally, first, second)
         }
-        Answer::Refused(n) => refused(tally, n),
+        Answer::Refused(n) => refused(rt, tally, n),
     }
 }
 
-pub(crate) fn inverse(name: &[u8], e: Example, tally: Tally) -> Tally {
-    io::write_all(STDOUT_FILENO, name);
-    io::write_all(STDOUT_FILENO, b", inverse:");
+pub(crate) fn inverse(rt: &impl Print, name: &[u8], e: Example, tally: Tally) -> io::Result<Tally> {
+    rt.write_all(name)?;
+    rt.write_all(b", inverse:")?;
     let answer = project(Way::Inverse, e, e.x_y.0, e.x_y.1);
     match answer {
         Answer::Pair(lon, lat) => {
-            let first = is_held(b" lon", rad_to_deg(lon), e.lon_lat.0, e.angle);
-            let second = is_held(b", lat", rad_to_deg(lat), e.lon_lat.1, e.angle);
-            counted(tally, first, second)
+            let first = is_held(rt, b" lon", rad_to_deg(lon), e.lon_lat.0, e.angle)?;
+            let second = is_held(rt, b", lat", rad_to_deg(lat), e.lon_lat.1, e.angle)?;
+            counted(rt, tally, first, second)
         }
-        Answer::Refused(n) => refused(tally, n),
+        Answer::Refused(n) => refused(rt, tally, n),
     }
 }
 
-pub(crate) fn both_ways(name: &[u8], e: Example, tally: Tally) -> Tally {
-    inverse(name, e, forward(name, e, tally))
+pub(crate) fn both_ways(
+    rt: &impl Print,
+    name: &[u8],
+    e: Example,
+    tally: Tally,
+) -> io::Result<Tally> {
+    let tally = forward(rt, name, e, tally)?;
+    inverse(rt, name, e, tally)
 }

@@ -2,6 +2,7 @@
 use crate::example::{Example, NO_PARALLELS, Pair, Tally, both_ways};
 use ellipsoid::{CLARKE1866, Ellipsoid, GRS80};
 use letters::Kind;
+use std::io;
 
 const HUNDREDTHS: f64 = 0.005;
 
@@ -72,9 +73,9 @@ const GUAM: Example = Example {
     angle: ARC,
 };
 
-pub(crate) fn run(tally: Tally) -> Tally {
-    let tally = both_ways(b"IOGP, Albers, Great Lakes", ALBERS, tally);
-    let tally = both_ways(b"IOGP, Lambert, Europe", LAMBERT, tally);
-    let tally = both_ways(b"IOGP, Cassini, Trinidad", CASSINI, tally);
-    both_ways(b"IOGP, Guam", GUAM, tally)
+pub(crate) fn run(rt: &impl Print, tally: Tally) -> io::Result<Tally> {
+    let tally = both_ways(rt, b"IOGP, Albers, Great Lakes", ALBERS, tally)?;
+    let tally = both_ways(rt, b"IOGP, Lambert, Europe", LAMBERT, tally)?;
+    let tally = both_ways(rt, b"IOGP, Cassini, Trinidad", CASSINI, tally)?;
+    both_ways(rt, b"IOGP, Guam", GUAM, tally)
 }

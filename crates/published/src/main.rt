@@ -1,5 +1,7 @@
 // Runs worked examples of published documents, forward and inverse, and holds the answers to the printed digits; then the
 // edge cases that document 01 has run only. docs/DIFFERENCES.md says where each example is printed.
+#![tactic(auto)]
+
 mod edges;
 mod example;
 mod iogp;
@@ -8,14 +10,16 @@ mod savric;
 mod snyder;
 
 use example::Tally;
-use libc::STDOUT_FILENO;
+use std::io;
 
-fn main() {
+fn main(rt: HostRuntime) -> io::Result<()> {
     let none = Tally { held: 0, differ: 0 };
-    let tally = savric::run(proj::run(iogp::run(snyder::run(none))));
-    io::print_decimal(STDOUT_FILENO, tally.held);
-    io::write_all(STDOUT_FILENO, b" held, ");
-    io::print_decimal(STDOUT_FILENO, tally.differ);
-    io::write_all(STDOUT_FILENO, b" differ\n");
-    edges::run();
+    let tally = snyder::run(&rt, none)?;
+    let tally = iogp::run(&rt, tally)?;
+    let tally = proj::run(&rt, tally)?;
+    let tally = savric::run(&rt, tally)?;
+    let held = tally.held;
+    let differ = tally.differ;
+    println!(rt; "{held} held, {differ} differ")?;
+    edges::run(&rt)
 }

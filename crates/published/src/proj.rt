@@ -4,6 +4,7 @@
 use crate::example::{Example, NO_OFFSETS, Pair, Tally, forward, inverse};
 use ellipsoid::Ellipsoid;
 use letters::Kind;
+use std::io;
 
 const NINE_DECIMALS: f64 = 0.0000000005;
 
@@ -24,66 +25,80 @@ fn albers(lon_lat: Pair, x_y: Pair) -> Example {
     }
 }
 
-fn there(name: &[u8], lon_lat: Pair, x_y: Pair, tally: Tally) -> Tally {
-    forward(name, albers(lon_lat, x_y), tally)
+fn there(
+    rt: &impl Print,
+    name: &[u8],
+    lon_lat: Pair,
+    x_y: Pair,
+    tally: Tally,
+) -> io::Result<Tally> {
+    forward(rt, name, albers(lon_lat, x_y), tally)
 }
 
-fn back(name: &[u8], lon_lat: Pair, x_y: Pair, tally: Tally) -> Tally {
-    inverse(name, albers(lon_lat, x_y), tally)
+fn back(rt: &impl Print, name: &[u8], lon_lat: Pair, x_y: Pair, tally: Tally) -> io::Result<Tally> {
+    inverse(rt, name, albers(lon_lat, x_y), tally)
 }
 
-pub(crate) fn run(tally: Tally) -> Tally {
+pub(crate) fn run(rt: &impl Print, tally: Tally) -> io::Result<Tally> {
     let northeast = Pair(223334.085170885, 111780.431884472);
     let southeast = Pair(223470.154991687, -111610.339430990);
     let northwest = Pair(-223334.085170885, 111780.431884472);
     let southwest = Pair(-223470.154991687, -111610.339430990);
     let tally = there(
+        rt,
         b"PROJ, Albers, sphere, north-east",
         Pair(2.0, 1.0),
         northeast,
         tally,
-    );
+    )?;
     let tally = there(
+        rt,
         b"PROJ, Albers, sphere, south-east",
         Pair(2.0, -1.0),
         southeast,
         tally,
-    );
+    )?;
     let tally = there(
+        rt,
         b"PROJ, Albers, sphere, north-west",
         Pair(-2.0, 1.0),
         northwest,
         tally,
-    );
+    )?;
     let tally = there(
+        rt,
         b"PROJ, Albers, sphere, south-west",
         Pair(-2.0, -1.0),
         southwest,
         tally,
-    );
+    )?;
     let northeast = Pair(0.001790494, 0.000895246);
     let southeast = Pair(0.001790493, -0.000895247);
     let northwest = Pair(-0.001790494, 0.000895246);
     let southwest = Pair(-0.001790493, -0.000895247);
     let tally = back(
+        rt,
         b"PROJ, Albers, sphere, north-east",
         northeast,
         Pair(200.0, 100.0),
         tally,
-    );
+    )?;
     let tally = back(
+        rt,
         b"PROJ, Albers, sphere, south-east",
         southeast,
         Pair(200.0, -100.0),
         tally,
-    );
+    )?;
     let tally = back(
+        rt,
         b"PROJ, Albers, sphere, north-west",
         northwest,
         Pair(-200.0, 100.0),
         tally,
-    );
+    )?;
     back(
+        rt,
         b"PROJ, Albers, sphere, south-west",
         southwest,
         Pair(-200.0, -100.0),

@@ -3,6 +3,7 @@
 use crate::example::{Example, NO_OFFSETS, NO_PARALLELS, Pair, Tally, forward};
 use ellipsoid::Ellipsoid;
 use letters::Kind;
+use std::io;
 
 const FIVE_DECIMALS: f64 = 0.000005;
 
@@ -38,7 +39,7 @@ const POLE: Example = Example {
     angle: 0.0,
 };
 
-pub(crate) fn run(tally: Tally) -> Tally {
-    let tally = forward(b"Equal Earth, end of the equator", EQUATOR, tally);
-    forward(b"Equal Earth, end of a pole line", POLE, tally)
+pub(crate) fn run(rt: &impl Print, tally: Tally) -> io::Result<Tally> {
+    let tally = forward(rt, b"Equal Earth, end of the equator", EQUATOR, tally)?;
+    forward(rt, b"Equal Earth, end of a pole line", POLE, tally)
 }

@@ -2,6 +2,7 @@
 use crate::example::{Example, NO_OFFSETS, NO_PARALLELS, Pair, Tally, both_ways};
 use ellipsoid::{CLARKE1866, Ellipsoid, INTL1924, UNIT_SPHERE};
 use letters::Kind;
+use std::io;
 
 // Lengths are printed in tenths of a metre, or in 1e-7 of a unit. The inverses start from these rounded lengths, which leave the
 // point open by up to about 3e-6 of a degree: they are held to five decimals, not to the last one printed.
@@ -107,13 +108,13 @@ const POLYCONIC_SPHERE: Example = Example {
     angle: FIVE_DECIMALS,
 };
 
-pub(crate) fn run(tally: Tally) -> Tally {
-    let tally = both_ways(b"Snyder, Albers", ALBERS, tally);
-    let tally = both_ways(b"Snyder, Albers, sphere", ALBERS_SPHERE, tally);
-    let tally = both_ways(b"Snyder, Lambert, oblique", LAMBERT_OBLIQUE, tally);
-    let tally = both_ways(b"Snyder, Lambert, polar", LAMBERT_POLAR, tally);
-    let tally = both_ways(b"Snyder, Lambert, sphere", LAMBERT_SPHERE, tally);
-    let tally = both_ways(b"Snyder, Cassini", CASSINI, tally);
-    let tally = both_ways(b"Snyder, polyconic", POLYCONIC, tally);
-    both_ways(b"Snyder, polyconic, sphere", POLYCONIC_SPHERE, tally)
+pub(crate) fn run(rt: &impl Print, tally: Tally) -> io::Result<Tally> {
+    let tally = both_ways(rt, b"Snyder, Albers", ALBERS, tally)?;
+    let tally = both_ways(rt, b"Snyder, Albers, sphere", ALBERS_SPHERE, tally)?;
+    let tally = both_ways(rt, b"Snyder, Lambert, oblique", LAMBERT_OBLIQUE, tally)?;
+    let tally = both_ways(rt, b"Snyder, Lambert, polar", LAMBERT_POLAR, tally)?;
+    let tally = both_ways(rt, b"Snyder, Lambert, sphere", LAMBERT_SPHERE, tally)?;
+    let tally = both_ways(rt, b"Snyder, Cassini", CASSINI, tally)?;
+    let tally = both_ways(rt, b"Snyder, polyconic", POLYCONIC, tally)?;
+    both_ways(rt, b"Snyder, polyconic, sphere", POLYCONIC_SPHERE, tally)
 }

@@ -31,7 +31,7 @@ fn with_area(values: Values, area: Area, handed_in: bool) -> Projection {
 }
 
 // The area of the four fields after a value line.
-#[derive(Drop)]
+#[derive(Clone, Copy)]
 pub(crate) enum Edges {
     Read(Area),
     Malformed,

@@ -1,7 +1,7 @@
 // The parts of a stored line.
 ghost use Rattle.std.specs.Prelude.{◌<◌, ◌≤◌};
 
-use bytes::scan::find;
+use crate::scan::find;
 use float::f64_of;
 use sheet::{Hex, field, read_hex};
 

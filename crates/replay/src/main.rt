@@ -5,6 +5,8 @@
 // where the comment may be left out. What a question may be, and its answer, stands in `question`. The lines of one name, a
 // function's or a way's and kind's, stand together. The program writes for each name how many of its answers are ours, and
 // before that each line whose answer is not ours or whose question it does not understand.
+#![tactic(auto)]
+
 mod albers;
 mod areas;
 mod charges;
@@ -16,16 +18,18 @@ mod on_map;
 mod question;
 mod reply;
 mod rings;
+mod scan;
 mod schools;
 
-ghost use Rattle.std.specs.Prelude.{◌≡◌, ◌+◌, ◌≤◌, length};
+ghost use Rattle.std.specs.Prelude.{◌≡◌, ◌+◌, ◌≤◌, length, IfOk};
 
-use bytes::scan::find;
 use check::same;
-use libc::{STDIN_FILENO, STDOUT_FILENO};
 use line::{answer, question, uncommented};
 use question::{name, reply};
 use reply::{is_said, write_reply};
+use scan::find;
+use std::io;
+use std::io::Read;
 
 // One byte more than the input may have.
 const ROOM: usize = 1200001;
@@ -37,27 +41,23 @@ fn input_buffer() -> [u8; ROOM]
 }
 
 // Whether the answer on a line is ours; if not, the line is written, and ours.
-fn agrees(line: &[u8]) -> bool {
+fn agrees(rt: &impl Print, line: &[u8]) -> io::Result<bool> {
     let text = uncommented(line);
     let ours = reply(question(text));
     if is_said(answer(text), ours) {
-        return true;
+        return Ok(true);
     }
-    io::write_all(STDOUT_FILENO, line);
-    io::write_all(STDOUT_FILENO, b"\n  ours: ");
-    write_reply(ours);
-    io::write_all(STDOUT_FILENO, b"\n");
-    false
+    rt.write_all(line)?;
+    rt.write_all(b"\n  ours: ")?;
+    write_reply(rt, ours)?;
+    rt.write_all(b"\n")?;
+    Ok(false)
 }
 
 // Writes `NAME M of N`.
-fn report(name: &[u8], ours: u64, lines: u64) {
-    io::write_all(STDOUT_FILENO, name);
-    io::write_all(STDOUT_FILENO, b" ");
-    io::print_decimal(STDOUT_FILENO, ours);
-    io::write_all(STDOUT_FILENO, b" of ");
-    io::print_decimal(STDOUT_FILENO, lines);
-    io::write_all(STDOUT_FILENO, b"\n");
+fn report(rt: &impl Print, name: &[u8], ours: u64, lines: u64) -> io::Result<()> {
+    rt.write_all(name)?;
+    println!(rt; " {ours} of {lines}")
 }
 
 // The count after one more line, which counts where `more` holds. No input has so many lines that it stops.
@@ -80,7 +80,7 @@ fn line_at(input: &[u8], from: usize) -> &[u8]
 }
 
 // Goes through the lines. The first of the present name stands at `first`.
-fn replay(input: &[u8]) {
+fn replay(rt: &impl Print, input: &[u8]) -> io::Result<()> {
     let mut first = 0;
     let mut ours: u64 = 0;
     let mut lines: u64 = 0;
@@ -89,23 +89,38 @@ fn replay(input: &[u8]) {
         let line = line_at(input, at);
         let known = line_at(input, first);
         if !same(name(line), name(known)) {
-            report(name(known), ours, lines);
+            report(rt, name(known), ours, lines)?;
             first = at;
             ours = 0;
             lines = 0;
         }
-        ours = counted(ours, agrees(line));
+        ours = counted(ours, agrees(rt, line)?);
         lines = counted(lines, true);
         at = at + line.len() + 1;
     }
-    report(name(line_at(input, first)), ours, lines);
+    report(rt, name(line_at(input, first)), ours, lines)
 }
 
-fn main() {
-    let mut input = input_buffer();
-    let n = io::read_full(STDIN_FILENO, &mut input);
-    if n == ROOM {
-        io::write_all(STDOUT_FILENO, b"The input has more than 1,200,000 bytes.\n");
+// Reads until the buffer is full or the input ends, and gives how much was read.
+fn read_full(reader: &mut impl Read, input: &mut [u8]) -> io::Result<usize>
+    ensures { IfOk result (λ n. n ≤ length input.new) }
+{
+    let mut n = 0;
+    while n < input.len() {
+        let more = reader.read(&mut input[n..])?;
+        if more == 0 {
+            break;
+        }
+        n += more;
     }
-    replay(&input[..n]);
+    Ok(n)
+}
+
+fn main(rt: HostRuntime) -> io::Result<()> {
+    let mut input = input_buffer();
+    let n = read_full(&mut rt.stdin(), &mut input)?;
+    if n == ROOM {
+        rt.write_all(b"The input has more than 1,200,000 bytes.\n")?;
+    }
+    replay(&rt, &input[..n])
 }

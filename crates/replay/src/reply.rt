@@ -1,17 +1,18 @@
 // Our reply to a question.
 ghost use Rattle.std.specs.Prelude.{◌≤◌};
 
+use crate::scan::put_decimal;
 use check::same;
 use float::bits_of;
-use libc::STDOUT_FILENO;
 use projection::Answer;
 use ring::{RingArea, ring_number, ring_points, ring_square};
 use sheet::{Hex, field, read_hex};
+use std::io;
 
 // A number as its bits, a row of a sheet (the number of a refusal or 0, and two results as bits) or of a charge (the charge, and the
 // shares in one number), the same of a ring (its area, the number of its points) with both buffers in one number, a number and a list
 // in one number, that what is asked for is missing, or none where the question is not understood.
-#[derive(Drop)]
+#[derive(Clone, Copy)]
 pub(crate) enum Reply {
     Bits(u64),
     Row(u8, u64, u64),
@@ -58,8 +59,8 @@ fn is_hex(text: &[u8], bits: u64) -> bool {
 fn starts(text: &[u8], n: u8, rest: usize) -> bool
     requires { rest ≤ 51 }
 {
-    let mut digits = [0u8; 20];
-    let count = io::decimal(n as u64, &mut digits);
+    let mut digits = [0u8; 3];
+    let count = put_decimal(n, &mut digits);
     let ends = if n < 10 {
         text.len() == rest + 1
     } else {
@@ -98,35 +99,15 @@ pub(crate) fn is_said(text: &[u8], reply: Reply) -> bool {
     }
 }
 
-fn write_list(n: u8, p: u64) {
-    io::print_decimal(STDOUT_FILENO, n as u64);
-    io::write_all(STDOUT_FILENO, b",");
-    io::print_hex(STDOUT_FILENO, p, 16);
-}
-
-fn write_row(n: u8, p: u64, q: u64) {
-    write_list(n, p);
-    io::write_all(STDOUT_FILENO, b",");
-    io::print_hex(STDOUT_FILENO, q, 16);
-}
-
-pub(crate) fn write_reply(reply: Reply) {
+pub(crate) fn write_reply(rt: &impl Print, reply: Reply) -> io::Result<()> {
     match reply {
-        Reply::Bits(bits) => {
-            io::print_hex(STDOUT_FILENO, bits, 16);
-        }
-        Reply::Row(n, p, q) => write_row(n, p, q),
+        Reply::Bits(bits) => print!(rt; "{bits:016x}"),
+        Reply::Row(n, p, q) => print!(rt; "{n},{p:016x},{q:016x}"),
         Reply::Ring(n, area, points, buffers) => {
-            write_row(n, area, points);
-            io::write_all(STDOUT_FILENO, b",");
-            io::print_hex(STDOUT_FILENO, buffers, 16);
+            print!(rt; "{n},{area:016x},{points:016x},{buffers:016x}")
         }
-        Reply::List(n, list) => write_list(n, list),
-        Reply::Missing => {
-            io::write_all(STDOUT_FILENO, b"missing");
-        }
-        Reply::None => {
-            io::write_all(STDOUT_FILENO, b"none, the question is not understood");
-        }
+        Reply::List(n, list) => print!(rt; "{n},{list:016x}"),
+        Reply::Missing => print!(rt; "missing"),
+        Reply::None => print!(rt; "none, the question is not understood"),
     }
 }

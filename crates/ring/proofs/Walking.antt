@@ -13,7 +13,7 @@ use Rattle.ring.specs.declared.edge.Projected.TheVariants.{At, Refused}
 use Rattle.ring.specs.declared.tally.Tally.{Tally}
 use Rattle.ring.specs.declared.walk.Walked.{Walked}
 use Rattle.ring.specs.declared.walk.Walked.TheVariants.{Done, Stopped}
-use Rattle.ring.specs.Edge.{Points, points, answered, points_of, place, join, edge, easting_of, northing_of}
+use Rattle.ring.specs.Edge.{Points, answered, points_of, place, join, edge, easting_of, northing_of}
 use Rattle.ring.specs.Ring.{DEPTH, corners, around}
 use Rattle.ring.specs.Tally.{started, counted, walked, rest, Laid}
 use Rattle.ring.proofs.Edges.{edge_few}

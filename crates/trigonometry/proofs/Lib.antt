@@ -1,4 +1,5 @@
 mod OwnRemainder
+mod FarRemainder
 mod Quarters
 pub mod Bounded
 pub mod Odd

@@ -22,7 +22,7 @@ module _ {x turn : Float} {a b : ℕ} (t : Finite binary64 turn false b) where
   fewer_units true p above below = ltb-true a b (sym (lt_units (neg_finite t).units p.units) ∙ above)
   fewer_units false p above below = ltb-true a b (sym (lt_units p.units t.units) ∙ below)
 
-  stays : {s : Bool} → Finite binary64 x s a → a < b → x fmod turn ≡ x
+  pub stays : {s : Bool} → Finite binary64 x s a → a < b → x fmod turn ≡ x
   stays p l = finite_unique (rw (mod-eq_of_lt l) at (rem_finite p t (lt_of_le_of_lt zero-le l))) p
 
 bounded : (x : Float) → neg TURN ≺ x ≡ true → x ≺ TURN ≡ true → T (finite x)

@@ -1,18 +1,41 @@
-ghost use Rattle.std.specs.Prelude.{◌≡◌};
+ghost use Rattle.std.specs.Prelude.{◌≡◌, false, true};
+ghost use Rattle.std.specs.Float.Ieee.Scale.{finite};
 ghost use Rattle.float.specs.Operators.{◌fmod◌};
 ghost use Rattle.float.specs.Constants.{TURN};
+ghost use Rattle.float.specs.Sign.{negative};
 ghost use Rattle.trigonometry.specs.Turns.{rem_euclid};
 
-use float::TURN;
+use float::{TURN, is_finite, is_negative, nan};
 
-// x % TURN. Less than a turn away from 0, as nearly every longitude is, that is x itself, without a call of fmod.
+// y % TURN of a finite y whose sign is plus. Twice the remainder of its half is that, or a turn more. Each step is exact.
+fn far_remainder(y: f64) -> f64
+    requires bounded { finite y ≡ true }
+    requires plus { negative y ≡ false }
+    ensures { result ≡ y fmod TURN }
+{
+    if y < TURN {
+        y
+    } else {
+        let of_half = far_remainder(y * 0.5);
+        let twice = of_half + of_half;
+        if twice < TURN { twice } else { twice - TURN }
+    }
+}
+
+// x % TURN. Less than a turn away from 0, as nearly every longitude is, that is x itself.
 fn rem_turn(x: f64) -> f64
     ensures { result ≡ x fmod TURN }
 {
     if (-TURN < x) & (x < TURN) {
         x
+    } else if is_finite(x) {
+        if is_negative(x) {
+            -far_remainder(-x)
+        } else {
+            far_remainder(x)
+        }
     } else {
-        x % TURN
+        nan()
     }
 }
 

@@ -1,5 +1,4 @@
 -- The first fault; or the points' own refusal; or the area and both buffers, once nothing more can be refused.
-use borrow.Author.Rules.{rules}
 use mathlib.Core.Path.{◌≡◌, refl, sym, ◌∙◌}
 use mathlib.Core.Bool.{true, false}
 use native.Mathlib.Omega.{arith}

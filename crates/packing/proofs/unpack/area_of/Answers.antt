@@ -1,6 +1,5 @@
 -- By the flag; each edge is read at its place.
 use mathlib.Core.Path.{refl}
-use borrow.Author.Rules.{rules}
 use Rattle.packing.specs.Packing.{area_from}
 use Rattle.packing.proofs.unpack.area_of.Goals as goal
 

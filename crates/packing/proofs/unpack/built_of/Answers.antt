@@ -1,6 +1,5 @@
 -- Mark by mark, the kind that the numbers hold.
 use mathlib.Core.Path.{refl}
-use borrow.Author.Rules.{rules}
 use borrow.Author.Tests.{ne_eqb}
 use Rattle.packing.specs.Packing.{marked, built_of}
 use Rattle.packing.proofs.unpack.built_of.Goals as goal

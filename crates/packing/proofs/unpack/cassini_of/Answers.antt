@@ -1,6 +1,5 @@
 -- Each field is read at its place.
 use mathlib.Core.Path.{refl}
-use borrow.Author.Rules.{rules}
 use Rattle.packing.specs.Packing.{cassini_of}
 use Rattle.packing.proofs.unpack.cassini_of.Goals as goal
 

@@ -1,6 +1,5 @@
 -- Each field is read at its place.
 use mathlib.Core.Path.{refl}
-use borrow.Author.Rules.{rules}
 use Rattle.packing.specs.Packing.{equal_earth_of}
 use Rattle.packing.proofs.unpack.equal_earth_of.Goals as goal
 

@@ -1,6 +1,5 @@
 -- Each field is read at its place.
 use mathlib.Core.Path.{refl}
-use borrow.Author.Rules.{rules}
 use Rattle.packing.specs.Packing.{lambert_of}
 use Rattle.packing.proofs.unpack.lambert_of.Goals as goal
 

@@ -1,6 +1,5 @@
 -- What is built, and beside it the meridian numbers and the area of use.
 use mathlib.Core.Path.{refl}
-use borrow.Author.Rules.{rules}
 use Rattle.packing.specs.Packing.{from, unpacked}
 use Rattle.packing.proofs.unpack.unpacked.Goals as goal
 

@@ -1,12 +1,6 @@
 -- The first refusal among the corners from a place on is that of them all, as those before it are answered.
-use Prim.Native.Nat.{◌-◌}
-use borrow.Author.Rules.{rules}
-use mathlib.Core.Path.{◌≡◌, ap, ◌∙◌, sym}
-use native.Mathlib.Omega.{arith}
-use lib.ListN.{length, drop}
-use Rattle.ring.specs.Ring.{before, corners}
+use mathlib.Core.Path.{ap, ◌∙◌, sym}
 use Rattle.ring.specs.Tally.{first_of}
-use Rattle.ring.specs.declared.edge.Projected.TheVariants.{At}
 use Rattle.ring.proofs.InRingOrder.{corners_end, corner_refused, corner_at, first_refused, first_stays, first_end, no_first}
 use Rattle.ring.proofs.corners.first_corner.Goals as goal
 

@@ -1,13 +1,10 @@
 -- The first refusal among the corners from a place on is that of them all, as those before it are answered.
 use Prim.Native.Nat.{◌-◌}
-use borrow.Author.Rules.{rules}
-use mathlib.Core.Path.{◌≡◌, ap, ◌∙◌, sym}
-use native.Mathlib.Omega.{arith}
+use mathlib.Core.Path.{◌≡◌}
 use lib.ListN.{length, drop}
 use Rattle.ring.specs.Ring.{before, corners}
 use Rattle.ring.specs.Tally.{first_of}
 use Rattle.ring.specs.declared.edge.Projected.TheVariants.{At}
-use Rattle.ring.proofs.InRingOrder.{corners_end, corner_refused, corner_at, first_refused, first_stays, first_end, no_first}
 use Rattle.ring.proofs.corners.first_corner.Given as goal
 
 abbrev pub invariant-loop-i : goal.invariant-loop-i

@@ -1,6 +1,5 @@
 -- The edge is its two halves and the point between them; each half has one cut less left.
-use Prim.Native.Nat.{ℕ, ◌-◌, ◌<◌}
-use borrow.Author.Rules.{rules}
+use Prim.Native.Nat.{◌-◌}
 use mathlib.Core.Path.{◌≡◌, sym, ap, ◌∙◌}
 use native.Mathlib.Omega.{arith}
 use Rattle.ring.specs.Edge.{join, edge, easting_of, northing_of}

@@ -1,6 +1,5 @@
 -- Both stores, and the definition.
 use mathlib.Core.Path.{refl}
-use borrow.Author.Rules.{rules}
 use Rattle.ring.specs.Tally.{counted}
 use Rattle.ring.proofs.tally.count.Goals as goal
 

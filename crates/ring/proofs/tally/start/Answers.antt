@@ -1,6 +1,5 @@
 -- Both stores, and the tally of one point.
 use mathlib.Core.Path.{refl}
-use borrow.Author.Rules.{rules}
 use Rattle.ring.specs.Tally.{started}
 use Rattle.ring.proofs.tally.start.Goals as goal
 

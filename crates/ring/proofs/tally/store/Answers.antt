@@ -1,6 +1,5 @@
 -- A place that the list has not is set by nobody.
 use mathlib.Core.Path.{refl, sym}
-use borrow.Author.Rules.{rules}
 use lib.Seq.{set_out}
 use Rattle.ring.proofs.tally.store.Goals as goal
 

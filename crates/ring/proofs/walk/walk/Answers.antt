@@ -1,9 +1,6 @@
 -- What is ahead, with what is done, is the whole; at the end nothing is ahead but the last edge.
-use Prim.Native.Nat.{◌-◌}
-use borrow.Author.Rules.{rules}
 use mathlib.Core.Path.{◌≡◌, sym, ◌∙◌}
 use native.Mathlib.Omega.{arith}
-use lib.ListN.{length}
 use Rattle.ring.specs.Edge.{edge}
 use Rattle.ring.specs.Ring.{DEPTH}
 use Rattle.ring.specs.Tally.{walked}

@@ -1,0 +1,9 @@
+-- The end only moves towards the line's start.
+use Rattle.std.proofs.Common.{length, ◌≤◌}
+use Rattle.replay.proofs.line.uncommented.Given as goal
+
+abbrev pub invariant-loop-end : goal.invariant-loop-end
+invariant-loop-end l = l.end ≤ length l.line
+
+abbrev pub decreases-loop-end : goal.decreases-loop-end
+decreases-loop-end l = l.end
