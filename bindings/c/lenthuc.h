@@ -1,9 +1,9 @@
 /*
  * Lenthuc: map projections for school planning, each with a proof. For C89 and later, and C++.
  *
- * Link with the archive libcapi.a, which tools/bundle calls liblenthuc.a, and with libm, for fmod alone:
+ * Link with the archive libcapi.a, which tools/bundle calls liblenthuc.a. It calls no other library:
  *
- *     cc program.c -I FOLDER FOLDER/libcapi.a -lm
+ *     cc program.c -I FOLDER FOLDER/libcapi.a
  *
  * The archive is for x86-64 Linux. It exports the functions that are declared below and no other name.
  *

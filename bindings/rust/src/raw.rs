@@ -28,10 +28,8 @@ const fn part(digits: &str) -> u32 {
     }
 }
 
-// The archive calls fmod and no other function. Rust's own runtime may have one before libm; a
-// remainder is exact, so both give the same.
+// The archive calls no other library.
 #[link(name = "capi", kind = "static")]
-#[link(name = "m")]
 // SAFETY: the signatures are those of lenthuc.h. A reference is a valid, aligned pointer to as many
 // numbers as its type says, and what a `&mut` points to nothing else uses, as the header asks. An
 // `Outcome` is a u8. The safe functions touch no other memory: they are proved safe for every
