@@ -1,13 +1,14 @@
 ghost use Rattle.std.specs.Prelude.{◌≡◌, cond, ◌+◌, ◌*◌, ◌≤◌};
 ghost use Rattle.trigonometry.specs.Trigonometry.{within_turn, quarters, rest, sine_sum, cosine_sum, sine_at, quarters_of, rest_of, sine, cosine, tangent};
 
+use crate::turns::rem_turn;
 use float::{FRAC_PI_2, FRAC_PI_4, LO, TURN, abs, is_finite, is_negative, nan, pick};
 use sums::{bit, factorial_sum};
 
 fn within_turn(z: f64) -> f64
     ensures { result ≡ within_turn z }
 {
-    if z > TURN { z % TURN } else { z }
+    if z > TURN { rem_turn(z) } else { z }
 }
 
 fn quarters(z: f64) -> u32

@@ -23,7 +23,7 @@ fn far_remainder(y: f64) -> f64
 }
 
 // x % TURN. Less than a turn away from 0, as nearly every longitude is, that is x itself.
-fn rem_turn(x: f64) -> f64
+pub(crate) fn rem_turn(x: f64) -> f64
     ensures { result ≡ x fmod TURN }
 {
     if (-TURN < x) & (x < TURN) {

@@ -4,7 +4,7 @@ use Rattle.trigonometry.proofs.trigonometry.within_turn.Goals as goal
 
 pub returns-then-z : goal.returns-then-z
 unfolding within_turn
-returns-then-z c = simp c.if-z.true
+returns-then-z c = simp (c.if-z.true, c.rem_turn.ensures)
 
 pub returns-else-z : goal.returns-else-z
 unfolding within_turn
