@@ -28,7 +28,7 @@ const fn part(digits: &str) -> u32 {
     }
 }
 
-// The archive calls no other library.
+// The archive needs no library but C's own.
 #[link(name = "capi", kind = "static")]
 // SAFETY: the signatures are those of lenthuc.h. A reference is a valid, aligned pointer to as many
 // numbers as its type says, and what a `&mut` points to nothing else uses, as the header asks. An

@@ -46,24 +46,20 @@ fn reads_more(reader: &mut impl Read) -> bool {
     }
 }
 
-// Reads until the buffer is full, the input ends or a read fails.
+// Reads until the buffer is full, the input ends or a read fails. Which of the last two it was, one more read tells.
 fn read_sheet(reader: &mut impl Read, input: &mut [u8]) -> Reading
     ensures { result.count ≤ length input.new }
 {
     let mut n = 0;
     while n < input.len() {
         match reader.read(&mut input[n..]) {
-            Ok(0) => {
+            Ok(0) | Err(_) => {
                 return Reading {
                     count: n,
                     more: reads_more(reader),
                 };
             }
             Ok(more) => n += more,
-            Err(_) => return Reading {
-                count: n,
-                more: true,
-            },
         }
     }
     Reading {
