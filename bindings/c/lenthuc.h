@@ -384,7 +384,7 @@ uint8_t lenthuc_inverse_on_map_column(const struct lenthuc_projection *projectio
  * judged by the area of use as a corner is.
  *
  * Nothing is written before the area is known: so the ring is gone round twice, and most points are projected twice or three
- * times. No memory is taken but the stack, some 15 kB as measured, and up to 16 kB more for a longitude that is very far
+ * times. No memory is taken but the stack, some 15 kB as measured, and some 16 kB more for a longitude that is very far
  * off. How near the area is to the one on the ground is not proved.
  * Proved: the number, *area and *points are those of the definition ring_area, for the projection that the numbers hold by
  * the definition unpacked, of any numbers; and both buffers then hold the points of the definition ring, and after them what
