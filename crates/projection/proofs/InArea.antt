@@ -2,7 +2,7 @@
 use mathlib.Core.Path.{◌≡◌, refl, ap}
 use mathlib.Core.Bool.{◌&&◌, ◌||◌}
 use mathlib.Core.Logic.{◌⊎◌, inl, inr}
-use Prim.Native.Nat.{ℕ, zero, suc}
+use Prim.Native.Nat.{ℕ}
 use native.Mathlib.Omega.{arith}
 use lib.Dec.{T}
 use lib.Signed.{◌≤ℤ◌}
@@ -15,16 +15,16 @@ use Rattle.float.specs.Units.{unit_count, in_units}
 use Rattle.float.proofs.Finite.{finite_of}
 use Rattle.float.proofs.Units.{HasUnits}
 use Rattle.float.proofs.UnitOrder.{lt_in_units, le_in_units}
-use Rattle.projection.specs.Checks.{guard}
+use Rattle.projection.specs.Checks.{Check, passed}
 use Rattle.projection.specs.OnTheMap.{OnTheMap}
 use Rattle.projection.specs.AreaOfUse.{crosses, holds, validate_normalised, validate_place, ensure_inside}
 use Rattle.projection.specs.InArea.{FiniteEdges, Longitudes, InUnits, Within, InArea}
-use Rattle.projection.specs.declared.Answer.{Answer}
-use Rattle.projection.specs.declared.Answer.TheVariants.{Pair, Refused}
+use Rattle.projection.specs.Answer.{Answer, pair}
+use Rattle.projection.proofs.Pairs.{same_first, same_second}
+use Rattle.std.specs.Prelude.{Option, Some, None, Ok, Err}
+use Rattle.std.specs.Result.{result_and}
+use Rattle.refusals.specs.declared.Refusal.{Refusal}
 use Rattle.projection.specs.declared.Area.{Area}
-use Rattle.projection.specs.declared.AreaOfUse.{AreaOfUse}
-use Rattle.projection.specs.declared.AreaOfUse.TheVariants.{Anywhere, Inside}
-use Rattle.projection.proofs.Refusal.{guard_passed}
 
 -- ---- what holds says in units
 
@@ -78,63 +78,63 @@ module _ (area : Area) (lon lat : Float) (e : Edges area) (u : F64 lon) (v : F64
 
 -- ---- answers that lie inside
 
-pub anywhere_in_area : (answer : Answer) → InArea Anywhere answer
+pub anywhere_in_area : (answer : Answer) → InArea None answer
 anywhere_in_area answer = record { inside = λ lon lat e edges f. let z : ◌≡◌ {A = ℕ} 0 1 = cc in absurd (omega arith) }
 
-pub refused_in_area : (area : AreaOfUse) (n : ℕ) → InArea area (Refused n)
-refused_in_area area n = record { inside = λ lon lat e. let z : ◌≡◌ {A = ℕ} 0 1 = cc in absurd (omega arith) }
+pub refused_in_area : (area : Option Area) (r : Refusal) → InArea area (Err r)
+refused_in_area area r = record { inside = λ lon lat e. let z : ◌≡◌ {A = ℕ} 0 1 = cc in absurd (omega arith) }
 
-pub within_in_area : (area : Area) (lon lat : Float) → Within area lon lat → InArea (Inside area) (Pair lon lat)
+pub within_in_area : (area : Area) (lon lat : Float) → Within area lon lat → InArea (Some area) (Ok (lon, lat))
 within_in_area area lon lat w = record { inside = go }
   where
-    go : (lon' lat' : Float) → Pair lon lat ≡ Pair lon' lat' → (edges : Area) → Inside area ≡ Inside edges → Within edges lon' lat'
+    go : (lon' lat' : Float) → pair lon lat ≡ pair lon' lat' → (edges : Area) → Some area ≡ Some edges → Within edges lon' lat'
     go lon' lat' e edges f =
         let same_area : area ≡ edges = cc in
-        let same_lon : lon ≡ lon' = cc in
-        let same_lat : lat ≡ lat' = cc in
+        let same_lon : lon ≡ lon' = same_first e in
+        let same_lat : lat ≡ lat' = same_second e in
         rw (same_area, same_lon, same_lat) at w
 
 -- ---- what an area leaves as it is
 
 -- without an area every answer stays
-pub inside_anywhere : (answer : Answer) → ensure_inside Anywhere answer ≡ answer
-unfolding ensure_inside validate_normalised guard
-inside_anywhere (Pair lon lat) = refl
-inside_anywhere (Refused n) = refl
+pub inside_anywhere : (answer : Answer) → ensure_inside None answer ≡ answer
+unfolding ensure_inside validate_normalised
+inside_anywhere (Ok (lon, lat)) = refl
+inside_anywhere (Err r) = refl
 
 -- a place that passes stays
-pub inside_passed : (area : AreaOfUse) (lon lat : Float) → validate_normalised area lon lat ≡ 0 → ensure_inside area (Pair lon lat) ≡ Pair lon lat
+pub inside_passed : (area : Option Area) (lon lat : Float) → validate_normalised area lon lat ≡ passed → ensure_inside area (Ok (lon, lat)) ≡ Ok (lon, lat)
 unfolding ensure_inside
-inside_passed area lon lat z = guard_passed (validate_normalised area lon lat) Refused (Pair lon lat) z
+inside_passed area lon lat z = rw z
 
 -- what is answered with an area was answered without it, and passed
-pub inside_answered : (area : AreaOfUse) (answer : Answer) (lon lat : Float) → ensure_inside area answer ≡ Pair lon lat
-    → (answer ≡ Pair lon lat) × (validate_normalised area lon lat ≡ 0)
-unfolding ensure_inside guard
-inside_answered area (Pair u v) lon lat e = go (validate_normalised area u v) refl e
+pub inside_answered : (area : Option Area) (answer : Answer) (lon lat : Float) → ensure_inside area answer ≡ Ok (lon, lat)
+    → (answer ≡ Ok (lon, lat)) × (validate_normalised area lon lat ≡ passed)
+unfolding ensure_inside
+inside_answered area (Ok (u, v)) lon lat e = go (validate_normalised area u v) refl e
   where
-    go : (n : ℕ) → validate_normalised area u v ≡ n → guard n Refused (Pair u v) ≡ Pair lon lat → (Pair u v ≡ Pair lon lat) × (validate_normalised area lon lat ≡ 0)
-    go zero z f =
-        let same_lon : u ≡ lon = cc in
-        let same_lat : v ≡ lat = cc in
+    go : (c : Check) → validate_normalised area u v ≡ c → result_and c (pair u v) ≡ pair lon lat → (pair u v ≡ pair lon lat) × (validate_normalised area lon lat ≡ passed)
+    go (Ok x) z f =
+        let same_lon : u ≡ lon = same_first f in
+        let same_lat : v ≡ lat = same_second f in
         (f, rw (same_lon, same_lat) at z)
-    go (suc n) z f = let c : ◌≡◌ {A = ℕ} 0 1 = cc in absurd (omega arith)
-inside_answered area (Refused n) lon lat e = let c : ◌≡◌ {A = ℕ} 0 1 = cc in absurd (omega arith)
+    go (Err r) z f = let c : ◌≡◌ {A = ℕ} 0 1 = cc in absurd (omega arith)
+inside_answered area (Err r) lon lat e = let c : ◌≡◌ {A = ℕ} 0 1 = cc in absurd (omega arith)
 
 -- so demand 3 stays whole
-pub inside_on_the_map : (area : AreaOfUse) (formula answer : Answer) → OnTheMap formula answer → OnTheMap formula (ensure_inside area answer)
+pub inside_on_the_map : (area : Option Area) (formula answer : Answer) → OnTheMap formula answer → OnTheMap formula (ensure_inside area answer)
 inside_on_the_map area formula answer on =
     record { answered = λ lon lat e. on.answered lon lat (inside_answered area answer lon lat e).0 }
 
 -- The longitude of a place on the map is settled: to normalise it before the test would change nothing.
-pub settled_place : (area : AreaOfUse) (formula answer : Answer) (lon lat : Float) → OnTheMap formula answer → answer ≡ Pair lon lat
+pub settled_place : (area : Option Area) (formula answer : Answer) (lon lat : Float) → OnTheMap formula answer → answer ≡ Ok (lon, lat)
     → validate_place area lon lat ≡ validate_normalised area lon lat
 unfolding validate_place
 settled_place area formula answer lon lat on e = ap (λ (x : Float). validate_normalised area x lat) (on.answered lon lat e).2.settled
 
 -- With finite edges, as 25 leaves them, and by demand 3, which says that a place is finite, what is answered lies inside in whole units.
-pub answered_in_units : (area : Area) (formula answer : Answer) (lon lat : Float) → FiniteEdges area → OnTheMap formula answer → InArea (Inside area) answer
-    → answer ≡ Pair lon lat → InUnits area lon lat
+pub answered_in_units : (area : Area) (formula answer : Answer) (lon lat : Float) → FiniteEdges area → OnTheMap formula answer → InArea (Some area) answer
+    → answer ≡ Ok (lon, lat) → InUnits area lon lat
 answered_in_units area formula answer lon lat f on held e =
     let place = (on.answered lon lat e).2 in
     (held.inside lon lat e area refl).exactly f place.lon_finite place.lat_finite

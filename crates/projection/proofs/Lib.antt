@@ -1,6 +1,5 @@
-pub mod Refusal
+pub mod Pairs
 pub mod AsInSource
-pub mod NeverZero
 pub mod Steps
 pub mod Normalising
 pub mod Normalised

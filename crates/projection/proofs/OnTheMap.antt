@@ -22,16 +22,19 @@ use Rattle.float.proofs.IntegerDifference.{difference_of, difference_sub, differ
 use Rattle.trigonometry.specs.Turns.{rem_euclid}
 use Rattle.projection.specs.Bound.{LAT_BOUND}
 use Rattle.projection.specs.Longitude.{normalize_longitude, eastern}
-use Rattle.refusals.specs.Refusals.{INVERSE_RESULT, INVERSE_BEYOND}
+use Rattle.refusals.specs.declared.Refusal.TheVariants.{InverseResult, InverseBeyond}
 use Rattle.projection.specs.Ends.{ensure_finite_lon_lat, finish}
 use Rattle.projection.specs.OnTheMap.{WITHIN, FAR, Place, OnTheMap}
-use Rattle.projection.specs.declared.Answer.{Answer}
-use Rattle.projection.specs.declared.Answer.TheVariants.{Pair, Refused}
+use Rattle.projection.specs.Answer.{Answer, pair}
+use Rattle.projection.proofs.Pairs.{same_first, same_second}
+use Rattle.std.specs.Prelude.{Option, Some, None, Ok, Err}
+use Rattle.std.specs.Result.{result_and}
+use Rattle.refusals.specs.declared.Refusal.{Refusal}
 use Rattle.projection.proofs.Normalising.{Circle, turn_pos}
 use Rattle.projection.proofs.Normalised.{Run, run, good, good_le, idempotent}
 use Rattle.projection.proofs.NormalisingError.{close}
 
-never : {A : Type 0} {n : ℕ} {lon lat : Float} → Refused n ≡ Pair lon lat → A
+never : {A : Type 0} {r : Refusal} {lon lat : Float} → Err r ≡ pair lon lat → A
 never h = let z : ◌≡◌ {A = ℕ} 0 1 = cc in absurd (omega arith)
 
 -- ---- the constants, in units
@@ -108,16 +111,16 @@ place {raw = raw} {lat} h l e =
     }
 
 -- for any f64 that a formula hands over, NaN and infinities too
-on_the_map : (raw lat : Float) → T (fits binary64 raw) → T (fits binary64 lat) → OnTheMap (Pair raw lat) (ensure_finite_lon_lat raw lat)
+on_the_map : (raw lat : Float) → T (fits binary64 raw) → T (fits binary64 lat) → OnTheMap (Ok (raw, lat)) (ensure_finite_lon_lat raw lat)
 unfolding ensure_finite_lon_lat
 on_the_map raw lat t u = record { answered = go (finite raw) (finite lat) (LAT_BOUND ≺ abs lat) refl refl refl }
   where
     go : (p q b : Bool) → p ≡ finite raw → q ≡ finite lat → b ≡ LAT_BOUND ≺ abs lat → (lon lat' : Float)
-        → cond (p && q) (cond b (Refused INVERSE_BEYOND) (Pair (normalize_longitude raw) lat)) (Refused INVERSE_RESULT) ≡ Pair lon lat'
-        → (r : Float) × (Pair raw lat ≡ Pair r lat') × Place r lon lat'
+        → cond (p && q) (cond b (Err InverseBeyond) (pair (normalize_longitude raw) lat)) (Err InverseResult) ≡ pair lon lat'
+        → (r : Float) × (pair raw lat ≡ pair r lat') × Place r lon lat'
     go true true false e f g lon lat' h =
-        let same_lon : normalize_longitude raw ≡ lon = cc in
-        let same_lat : lat ≡ lat' = cc in
+        let same_lon : normalize_longitude raw ≡ lon = same_first h in
+        let same_lat : lat ≡ lat' = same_second h in
         let v = place (finite_of binary64 raw t (subst T e tt)) (finite_of binary64 lat u (subst T f tt)) (sym g) in
         (raw, rw same_lat refl, rw (same_lon, same_lat) at v)
     go true true true e f g lon lat' h = never h
@@ -125,16 +128,16 @@ on_the_map raw lat t u = record { answered = go (finite raw) (finite lat) (LAT_B
     go false q b e f g lon lat' h = never h
 
 -- a refusal is no place
-pub refused : (n : ℕ) → OnTheMap (Refused n) (Refused n)
-refused n = record { answered = λ lon lat h. never h }
+pub refused : (r : Refusal) → OnTheMap (Err r) (Err r)
+refused r = record { answered = λ lon lat h. never h }
 
 -- both numbers of a place are f64: `Float` has others too, with more digits or a larger exponent
 abbrev pub Held : Answer → Type 0
-Held (Pair raw lat) = T (fits binary64 raw) × T (fits binary64 lat)
-Held (Refused n) = Unit
+Held (Ok (raw, lat)) = T (fits binary64 raw) × T (fits binary64 lat)
+Held (Err r) = Unit
 
 -- whatever a formula hands over, NaN and infinities too
 pub finish_on_the_map : (formula : Answer) → Held formula → OnTheMap formula (finish formula)
 unfolding finish
-finish_on_the_map (Pair raw lat) h = on_the_map raw lat h.0 h.1
-finish_on_the_map (Refused n) h = refused n
+finish_on_the_map (Ok (raw, lat)) h = on_the_map raw lat h.0 h.1
+finish_on_the_map (Err r) h = refused r

@@ -1,15 +1,15 @@
 -- What the area of use gives at its edges: a table with a row for each case, and one theorem by computation. Edges stand in the order west, east, south, north.
-use Rattle.std.specs.Prelude.{ℕ, suc, ◌≡◌, refl, List, [], ◌∷◌, map, Float, true, false}
+use Rattle.std.specs.Prelude.{ℕ, suc, ◌≡◌, refl, List, [], ◌∷◌, map, Float, true, false, Some}
 use Prim.Native.String.{String}
 use Rattle.std.specs.Float.{nan, inf, binary64}
 use Rattle.std.specs.Float.Ieee.{neg, to_bits}
 use Rattle.float.specs.Operators.{◌⊗◌, f64}
 use Rattle.float.specs.Constants.{+0, one, two, PI, FRAC_PI_2, ratio}
+use Rattle.refusals.specs.Refusals.{number}
 use Rattle.projection.specs.Bound.{LAT_BOUND}
 use Rattle.projection.specs.AreaOfUse.{validate_area, validate_place}
 use Rattle.projection.specs.Opened.{opened}
 use Rattle.projection.specs.declared.Area.{Area}
-use Rattle.projection.specs.declared.AreaOfUse.TheVariants.{Inside}
 
 -- a row: what the case is, the number that is worked out, the number that document 02 gives
 pub record Row : Type 0 where
@@ -23,11 +23,11 @@ area west east south north = record { west = west; east = east; south = south; n
 -- the number of a place at the latitude 1/2, in an area from -1 to 1 north
 abbrev at : String → Float → Float → Float → ℕ → Row
 at label west east lon says =
-    record { label = label; worked_out = validate_place (Inside (area west east (neg one) one)) lon (ratio 1 2); says = says }
+    record { label = label; worked_out = number (validate_place (Some (area west east (neg one) one)) lon (ratio 1 2)); says = says }
 
 -- the number of four edges
 abbrev edges : String → Float → Float → Float → Float → ℕ → Row
-edges label west east south north says = record { label = label; worked_out = validate_area (area west east south north); says = says }
+edges label west east south north says = record { label = label; worked_out = number (validate_area (area west east south north)); says = says }
 
 -- the f64 above a positive one
 abbrev above : Float → Float

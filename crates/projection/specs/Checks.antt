@@ -1,40 +1,51 @@
--- The checks: each gives document 01's refusal number, or 0 where it passes. Beyond the bound means strictly above it.
-use Rattle.std.specs.Prelude.{cond, ◌&&◌, ℕ, zero, suc, Float}
+-- The checks: each passes, or gives document 01's refusal. Beyond the bound means strictly above it. `result_and` is the source's `?`: the first refusal of two.
+use Rattle.std.specs.Prelude.{cond, ◌&&◌, Float, Result, Ok, Err, ⊤}
+use Rattle.std.specs.Result.{result_and}
 use Rattle.std.specs.Float.Ieee.Scale.{finite}
 use Rattle.float.specs.Operators.{◌≺◌}
+use Rattle.float.specs.Constants.{+0}
 use Rattle.float.specs.Sign.{abs}
-use Rattle.refusals.specs.Refusals.{LON0, LATITUDE_SETTING, LATITUDE_SETTING_BEYOND, FALSE_EASTING, FALSE_NORTHING, FORWARD_INPUT, FORWARD_BEYOND, INVERSE_INPUT}
+use Rattle.refusals.specs.declared.Refusal.{Refusal}
+use Rattle.refusals.specs.declared.Refusal.TheVariants.{Lon0, LatitudeSetting, LatitudeSettingBeyond, FalseEasting, FalseNorthing, ForwardInput, ForwardBeyond, InverseInput}
 use Rattle.projection.specs.Bound.{LAT_BOUND}
+use Rattle.projection.specs.declared.Settings.{Settings}
 
--- the first refusal of two
-unfoldable pub or_else : ℕ → ℕ → ℕ
-or_else zero second = second
-or_else (suc first) second = suc first
+-- a check passes, or refuses
+abbrev pub Check : Type 0
+Check = Result ⊤ Refusal
 
--- a refusal, or else what follows it, for any kind of answer
-unfoldable pub guard : {A : Type 0} → ℕ → (ℕ → A) → A → A
-guard zero refuse a = a
-guard (suc n) refuse a = refuse (suc n)
+abbrev pub passed : Check
+passed = Ok tt
 
-unfoldable pub validate_angle : Float → ℕ
-validate_angle value = cond (finite value) 0 LON0
+unfoldable pub validate_angle : Float → Check
+validate_angle value = cond (finite value) passed (Err Lon0)
 
-unfoldable pub validate_latitude_param : Float → ℕ
-validate_latitude_param value = cond (finite value) (cond (LAT_BOUND ≺ abs value) LATITUDE_SETTING_BEYOND 0) LATITUDE_SETTING
+unfoldable pub validate_latitude_param : Float → Check
+validate_latitude_param value = cond (finite value) (cond (LAT_BOUND ≺ abs value) (Err LatitudeSettingBeyond) passed) (Err LatitudeSetting)
 
--- the number says which offset it is
-unfoldable pub validate_offset : Float → ℕ → ℕ
-validate_offset value number = cond (finite value) 0 number
+-- the refusal says which offset it is
+unfoldable pub validate_offset : Float → Refusal → Check
+validate_offset value refusal = cond (finite value) passed (Err refusal)
+
+-- of a kind that has lat0 alone, and of one that has no latitude: those that it does not have are 0
+abbrev pub with_origin : Float → Float → Float → Float → Settings
+with_origin lon0 lat0 false_easting false_northing =
+    record { lon0 = lon0; lat0 = lat0; lat1 = +0; lat2 = +0; false_easting = false_easting; false_northing = false_northing }
+
+abbrev pub without_origin : Float → Float → Float → Settings
+without_origin lon0 false_easting false_northing = with_origin lon0 +0 false_easting false_northing
 
 -- the settings that the kinds share: 6, then 7 and 8 latitude by latitude, then 9, 10
-unfoldable pub validate_settings : Float → Float → Float → Float → Float → Float → ℕ
-validate_settings lon0 lat0 lat1 lat2 false_easting false_northing =
-    or_else (validate_angle lon0)
-    (or_else (or_else (validate_latitude_param lat0) (or_else (validate_latitude_param lat1) (validate_latitude_param lat2)))
-    (or_else (validate_offset false_easting FALSE_EASTING) (validate_offset false_northing FALSE_NORTHING)))
+unfoldable pub validate_settings : Settings → Check
+validate_settings s =
+    result_and (validate_angle s.lon0)
+    (result_and (validate_latitude_param s.lat0)
+    (result_and (validate_latitude_param s.lat1)
+    (result_and (validate_latitude_param s.lat2)
+    (result_and (validate_offset s.false_easting FalseEasting) (validate_offset s.false_northing FalseNorthing)))))
 
-unfoldable pub validate_lon_lat : Float → Float → ℕ
-validate_lon_lat lon lat = cond (finite lon && finite lat) (cond (LAT_BOUND ≺ abs lat) FORWARD_BEYOND 0) FORWARD_INPUT
+unfoldable pub validate_lon_lat : Float → Float → Check
+validate_lon_lat lon lat = cond (finite lon && finite lat) (cond (LAT_BOUND ≺ abs lat) (Err ForwardBeyond) passed) (Err ForwardInput)
 
-unfoldable pub validate_projected : Float → Float → ℕ
-validate_projected x y = cond (finite x && finite y) 0 INVERSE_INPUT
+unfoldable pub validate_projected : Float → Float → Check
+validate_projected x y = cond (finite x && finite y) passed (Err InverseInput)

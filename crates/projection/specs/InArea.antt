@@ -1,13 +1,10 @@
 -- What document 02's area of use adds to demand 3: whatever an inverse answers lies inside, as numbers and in whole units of 2^-1074.
-use Rattle.std.specs.Prelude.{◌≡◌, ◌⊎◌, T, ℤ, ◌≤ℤ◌, ◌<ℤ◌, Float}
+use Rattle.std.specs.Prelude.{◌≡◌, ◌⊎◌, T, ℤ, ◌≤ℤ◌, ◌<ℤ◌, Float, Option, Some, Ok}
 use Rattle.std.specs.Float.Ieee.Scale.{finite}
 use Rattle.float.specs.Units.{in_units}
 use Rattle.projection.specs.AreaOfUse.{holds}
-use Rattle.projection.specs.declared.Answer.{Answer}
-use Rattle.projection.specs.declared.Answer.TheVariants.{Pair}
+use Rattle.projection.specs.Answer.{Answer}
 use Rattle.projection.specs.declared.Area.{Area}
-use Rattle.projection.specs.declared.AreaOfUse.{AreaOfUse}
-use Rattle.projection.specs.declared.AreaOfUse.TheVariants.{Inside}
 
 -- `in_units` takes NaN and infinities for 0. An area that a projection was built with has no such edge: 25.
 pub record FiniteEdges (area : Area) : Type 0 where
@@ -30,5 +27,5 @@ pub record Within (area : Area) (lon lat : Float) : Type 0 where
   pub exactly : FiniteEdges area → T (finite lon) → T (finite lat) → InUnits area lon lat
 
 -- what is answered lies inside the area of use, where there is one
-pub record InArea (area : AreaOfUse) (answer : Answer) : Type 0 where
-  pub inside : (lon lat : Float) → answer ≡ Pair lon lat → (edges : Area) → area ≡ Inside edges → Within edges lon lat
+pub record InArea (area : Option Area) (answer : Answer) : Type 0 where
+  pub inside : (lon lat : Float) → answer ≡ Ok (lon, lat) → (edges : Area) → area ≡ Some edges → Within edges lon lat

@@ -1,4 +1,5 @@
 pub mod Bound
+pub mod Answer
 pub mod Results
 pub mod Checks
 pub mod Longitude

@@ -1,12 +1,11 @@
 -- Document 01's demand 3: whatever an inverse answers lies on the map. Sizes and distances are exact, in whole units of 2^-1074.
-use Rattle.std.specs.Prelude.{◌≡◌, ℕ, ◌*◌, ◌-◌, ◌^◌, ◌≤◌, ℤ, nat_abs, ◌+ℤ◌, ◌-ℤ◌, ◌*ℤ◌, T, Float}
+use Rattle.std.specs.Prelude.{◌≡◌, ℕ, ◌*◌, ◌-◌, ◌^◌, ◌≤◌, ℤ, nat_abs, ◌+ℤ◌, ◌-ℤ◌, ◌*ℤ◌, T, Float, Ok}
 use Rattle.std.specs.Float.Ieee.Scale.{finite}
 use Rattle.float.specs.Constants.{PI, TURN}
 use Rattle.float.specs.Units.{in_units}
 use Rattle.projection.specs.Bound.{LAT_BOUND}
 use Rattle.projection.specs.Longitude.{normalize_longitude}
-use Rattle.projection.specs.declared.Answer.{Answer}
-use Rattle.projection.specs.declared.Answer.TheVariants.{Pair}
+use Rattle.projection.specs.Answer.{Answer}
 
 -- 2^-42 and 1,024, in units
 abbrev pub WITHIN : ℕ
@@ -30,4 +29,4 @@ pub record Place (raw lon lat : Float) : Type 0 where
 
 -- what is answered is a place on the map, from the formula's longitude and with its latitude
 pub record OnTheMap (formula answer : Answer) : Type 0 where
-  pub answered : (lon lat : Float) → answer ≡ Pair lon lat → (raw : Float) × (formula ≡ Pair raw lat) × Place raw lon lat
+  pub answered : (lon lat : Float) → answer ≡ Ok (lon, lat) → (raw : Float) × (formula ≡ Ok (raw, lat)) × Place raw lon lat

@@ -9,7 +9,7 @@ use Rattle.projection.specs.MapEdge as map_edge
 use Rattle.projection.specs.Iteration as iteration
 
 unfoldable pub opened : Unit {0}
-unfolding trigonometry_below.opened checks.or_else checks.guard checks.validate_angle checks.validate_latitude_param checks.validate_offset
+unfolding trigonometry_below.opened checks.validate_angle checks.validate_latitude_param checks.validate_offset
     checks.validate_settings checks.validate_lon_lat checks.validate_projected longitude.eastern longitude.normalize_longitude starts.enter
     starts.entered ends.ensure_finite_xy ends.ensure_finite_lon_lat ends.finish area.validate_area area.holds area.validate_place area.validate_normalised
     area.ensure_inside map_edge.beyond_edge iteration.after_step iteration.iterate iteration.compared

@@ -1,16 +1,17 @@
 // The area of use of a projection: document 02's request Q-1.
-ghost use Rattle.std.specs.Prelude.{◌≡◌, T};
+ghost use Rattle.std.specs.Prelude.{◌≡◌, T, Ok};
 ghost use Rattle.projection.specs.InArea.{Within, InArea};
+ghost use Rattle.projection.specs.Checks.{passed};
 ghost use Rattle.projection.specs.AreaOfUse.{validate_area, holds, validate_place, validate_normalised, ensure_inside};
 
 use crate::bound::LAT_BOUND;
 use crate::longitude::normalize_longitude;
-use crate::{Answer, Area, AreaOfUse};
+use crate::{Answer, Area};
 use float::{PI, abs, is_finite};
-use refusals::{AREA_EDGES, OUTSIDE_AREA};
+use refusals::Refusal;
 
 // 25 for edges that bound no area.
-pub fn validate_area(area: Area) -> u8
+pub fn validate_area(area: Area) -> Result<(), Refusal>
     ensures { result ≡ validate_area area }
 {
     let longitudes = is_finite(area.west) & is_finite(area.east);
@@ -19,12 +20,12 @@ pub fn validate_area(area: Area) -> u8
         let outside_turn = (PI < abs(area.west)) | (PI < abs(area.east));
         let beyond = (LAT_BOUND < abs(area.south)) | (LAT_BOUND < abs(area.north));
         if outside_turn | beyond | (area.north < area.south) {
-            AREA_EDGES
+            Err(Refusal::AreaEdges)
         } else {
-            0
+            Ok(())
         }
     } else {
-        AREA_EDGES
+        Err(Refusal::AreaEdges)
     }
 }
 
@@ -39,39 +40,39 @@ pub fn holds(area: Area, lon: f64, lat: f64) -> bool
         & ((area.south <= lat) & (lat <= area.north))
 }
 
-// 26 for a place outside the area of use. Its longitude is normalised already.
-fn validate_normalised(area: AreaOfUse, lon: f64, lat: f64) -> u8
-    ensures { (result ≡ validate_normalised area lon lat) × (result ≡ 0 → InArea area (Answer.Pair lon lat)) }
+// 26 for a place outside the area of use, if there is one. Its longitude is normalised already.
+fn validate_normalised(area: Option<Area>, lon: f64, lat: f64) -> Result<(), Refusal>
+    ensures { (result ≡ validate_normalised area lon lat) × (result ≡ passed → InArea area (Ok (lon, lat))) }
 {
     match area {
-        AreaOfUse::Anywhere => 0,
-        AreaOfUse::Inside(a) => { if holds(a, lon, lat) { 0 } else { OUTSIDE_AREA } }
+        None => Ok(()),
+        Some(edges) => {
+            if holds(edges, lon, lat) {
+                Ok(())
+            } else {
+                Err(Refusal::OutsideArea)
+            }
+        }
     }
 }
 
 // The same for any place, whose longitude is normalised first. Where there is no area nothing is normalised.
-pub fn validate_place(area: AreaOfUse, lon: f64, lat: f64) -> u8
+#[tactic(auto, unfolding(crate::specs::AreaOfUse::validate_place, crate::specs::AreaOfUse::validate_normalised))]
+pub fn validate_place(area: Option<Area>, lon: f64, lat: f64) -> Result<(), Refusal>
     ensures { result ≡ validate_place area lon lat }
 {
     match area {
-        AreaOfUse::Anywhere => 0,
-        AreaOfUse::Inside(_) => validate_normalised(area, normalize_longitude(lon), lat),
+        None => Ok(()),
+        Some(_) => validate_normalised(area, normalize_longitude(lon), lat),
     }
 }
 
 // An inverse's answer, which `finish` has normalised, where the area of use holds it.
-pub fn ensure_inside(area: AreaOfUse, answer: Answer) -> Answer
+#[tactic(auto, unfolding(crate::specs::AreaOfUse::ensure_inside))]
+pub fn ensure_inside(area: Option<Area>, answer: Answer) -> Answer
     ensures { (result ≡ ensure_inside area answer) × InArea area result }
 {
-    match answer {
-        Answer::Pair(lon, lat) => {
-            let outside = validate_normalised(area, lon, lat);
-            if outside == 0 {
-                Answer::Pair(lon, lat)
-            } else {
-                Answer::Refused(outside)
-            }
-        }
-        Answer::Refused(n) => Answer::Refused(n),
-    }
+    let (lon, lat) = answer?;
+    validate_normalised(area, lon, lat)?;
+    Ok((lon, lat))
 }

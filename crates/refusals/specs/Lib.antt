@@ -1,1 +1,2 @@
+pub mod Unlisted
 pub mod Refusals

@@ -1,130 +1,119 @@
--- The refusal numbers, by name: docs/refusals.txt has the list. Each comes where the comment says, the first that applies.
-use Rattle.std.specs.Prelude.{ℕ}
+-- The refusals' numbers.
+use native.Mathlib.Omega.{arith}
+use mathlib.Core.Path.{sym, ap, ◌∙◌}
+use mathlib.Core.Bool.{false≢true, Bool-set}
+use Rattle.std.specs.Prelude.{ℕ, Bool, true, false, cond, ◌==◌, ◌≡◌, refl, List, [], ◌∷◌, get_or, Option, Some, None, Result, Ok, Err}
+use Rattle.refusals.specs.Unlisted.{is_unlisted}
+use Rattle.refusals.specs.declared.unlisted.Unlisted.{Unlisted}
+use Rattle.refusals.specs.declared.Refusal.{Refusal}
+use Rattle.refusals.specs.declared.Refusal.TheVariants as refusal
 
--- the sheet has more than 65,536 bytes
-abbrev pub SHEET_SIZE : ℕ
-SHEET_SIZE = 1
+-- the number of a refusal, as docs/refusals.txt has it
+abbrev pub number_of : Refusal → ℕ
+number_of refusal.SheetSize = 1
+number_of refusal.LineForm = 2
+number_of refusal.InverseFlattening = 3
+number_of refusal.SemiMajorAxis = 4
+number_of refusal.Flattening = 5
+number_of refusal.Lon0 = 6
+number_of refusal.LatitudeSetting = 7
+number_of refusal.LatitudeSettingBeyond = 8
+number_of refusal.FalseEasting = 9
+number_of refusal.FalseNorthing = 10
+number_of refusal.Sphere = 11
+number_of refusal.PolarQ = 12
+number_of refusal.OriginNearPole = 13
+number_of refusal.OriginScale = 14
+number_of refusal.ConeConstant = 15
+number_of refusal.ForwardInput = 16
+number_of refusal.ForwardBeyond = 17
+number_of refusal.Antipode = 18
+number_of refusal.ForwardResult = 19
+number_of refusal.InverseInput = 20
+number_of refusal.StepAtPole = 21
+number_of refusal.StepsUsedUp = 22
+number_of refusal.InverseResult = 23
+number_of refusal.InverseBeyond = 24
+number_of refusal.AreaEdges = 25
+number_of refusal.OutsideArea = 26
+number_of refusal.RingForm = 27
+number_of refusal.RingResult = 28
+number_of refusal.NearestInput = 29
+number_of refusal.OffTheMap = 30
+number_of refusal.ChargeInput = 31
+number_of refusal.UnequalLengths = 255
+number_of (refusal.Unlisted handed_in) = handed_in.number
 
--- a line does not have the sheet's form, or a letter names no way or no kind
-abbrev pub LINE_FORM : ℕ
-LINE_FORM = 2
+-- the refusals of 0 to 31, by their numbers: 0 has none
+abbrev first_refusals : List (Option Refusal)
+first_refusals =
+    None
+    ∷ Some refusal.SheetSize
+    ∷ Some refusal.LineForm
+    ∷ Some refusal.InverseFlattening
+    ∷ Some refusal.SemiMajorAxis
+    ∷ Some refusal.Flattening
+    ∷ Some refusal.Lon0
+    ∷ Some refusal.LatitudeSetting
+    ∷ Some refusal.LatitudeSettingBeyond
+    ∷ Some refusal.FalseEasting
+    ∷ Some refusal.FalseNorthing
+    ∷ Some refusal.Sphere
+    ∷ Some refusal.PolarQ
+    ∷ Some refusal.OriginNearPole
+    ∷ Some refusal.OriginScale
+    ∷ Some refusal.ConeConstant
+    ∷ Some refusal.ForwardInput
+    ∷ Some refusal.ForwardBeyond
+    ∷ Some refusal.Antipode
+    ∷ Some refusal.ForwardResult
+    ∷ Some refusal.InverseInput
+    ∷ Some refusal.StepAtPole
+    ∷ Some refusal.StepsUsedUp
+    ∷ Some refusal.InverseResult
+    ∷ Some refusal.InverseBeyond
+    ∷ Some refusal.AreaEdges
+    ∷ Some refusal.OutsideArea
+    ∷ Some refusal.RingForm
+    ∷ Some refusal.RingResult
+    ∷ Some refusal.NearestInput
+    ∷ Some refusal.OffTheMap
+    ∷ Some refusal.ChargeInput
+    ∷ []
 
--- the inverse flattening (1/f) is not a finite number above 1
-abbrev pub INVERSE_FLATTENING : ℕ
-INVERSE_FLATTENING = 3
+abbrev listed : ℕ → Option Refusal
+listed n = cond (n == 255) (Some refusal.UnequalLengths) (get_or first_refusals n None)
 
--- the semi-major axis (a) is not a finite number above 0
-abbrev pub SEMI_MAJOR_AXIS : ℕ
-SEMI_MAJOR_AXIS = 4
+abbrev by_test : (n : ℕ) (b : Bool) → b ≡ is_unlisted n → Option Refusal
+by_test n true h = Some (refusal.Unlisted (record { number = n; unlisted = sym h }))
+by_test n false h = listed n
 
--- the flattening (f) is not a number from 0 up to, but not including, 1
-abbrev pub FLATTENING : ℕ
-FLATTENING = 5
+-- the refusal of a byte: there is none of 0
+abbrev pub from_number : ℕ → Option Refusal
+from_number n = by_test n (is_unlisted n) refl
 
--- the origin's longitude (lon0) is not a finite number
-abbrev pub LON0 : ℕ
-LON0 = 6
+pub from_number-unlisted : (n : ℕ) (h : is_unlisted n ≡ true) → Some (refusal.Unlisted (record { number = n; unlisted = h })) ≡ from_number n
+from_number-unlisted n h = go (is_unlisted n) refl
+  where
+    go : (b : Bool) (e : b ≡ is_unlisted n) → Some (refusal.Unlisted (record { number = n; unlisted = h })) ≡ by_test n b e
+    go true e = ap (λ (p : is_unlisted n ≡ true). Some (refusal.Unlisted (record { number = n; unlisted = p }))) (Bool-set _ _ h (sym e))
+    go false e = absurd (false≢true (e ∙ h))
 
--- the latitude of the origin (lat0) or of a parallel (lat1, lat2) is not a finite number
-abbrev pub LATITUDE_SETTING : ℕ
-LATITUDE_SETTING = 7
+-- a number says which refusal it is
+pub from_number-number_of : (r : Refusal) → from_number (number_of r) ≡ Some r
+from_number-number_of (refusal.Unlisted handed_in) = sym (from_number-unlisted handed_in.number handed_in.unlisted)
+from_number-number_of r = refl
 
--- the latitude of the origin (lat0) or of a parallel (lat1, lat2) is beyond 90 degrees (pi/2 + 1e-12)
-abbrev pub LATITUDE_SETTING_BEYOND : ℕ
-LATITUDE_SETTING_BEYOND = 8
+-- refusals with different numbers are different
+pub other_number : (r s : Refusal) → (number_of r ≡ number_of s → ⊥) → r ≡ s → ⊥
+other_number r s h e = h (ap number_of e)
 
--- the false easting (fe) is not a finite number
-abbrev pub FALSE_EASTING : ℕ
-FALSE_EASTING = 9
+-- no number is 0, which stands for an answer
+pub number_of-positive : (r : Refusal) → number_of r ≡ 0 → ⊥
+number_of-positive (refusal.Unlisted handed_in) e = false≢true (rw e at handed_in.unlisted)
+number_of-positive r e = omega (arith, e)
 
--- the false northing (fn) is not a finite number
-abbrev pub FALSE_NORTHING : ℕ
-FALSE_NORTHING = 10
-
--- Guam: the ellipsoid is a sphere (e2 is 0)
-abbrev pub SPHERE : ℕ
-SPHERE = 11
-
--- Lambert: q at the pole is not a finite number above 0
-abbrev pub POLAR_Q : ℕ
-POLAR_Q = 12
-
--- Lambert: the origin is near a pole but not at it (its authalic cosine is below 1e-12 in size)
-abbrev pub ORIGIN_NEAR_POLE : ℕ
-ORIGIN_NEAR_POLE = 13
-
--- Lambert: the origin's scale (d) is not a finite number above 0
-abbrev pub ORIGIN_SCALE : ℕ
-ORIGIN_SCALE = 14
-
--- Albers: the parallels make no cone (its constant n is below 1e-12 in size)
-abbrev pub CONE_CONSTANT : ℕ
-CONE_CONSTANT = 15
-
--- the longitude or latitude given is not a finite number
-abbrev pub FORWARD_INPUT : ℕ
-FORWARD_INPUT = 16
-
--- the latitude given is beyond 90 degrees (pi/2 + 1e-12)
-abbrev pub FORWARD_BEYOND : ℕ
-FORWARD_BEYOND = 17
-
--- Lambert: the point is opposite the origin (the denominator is 0 or below)
-abbrev pub ANTIPODE : ℕ
-ANTIPODE = 18
-
--- the easting or northing worked out is not a finite number
-abbrev pub FORWARD_RESULT : ℕ
-FORWARD_RESULT = 19
-
--- the easting or northing given is not a finite number
-abbrev pub INVERSE_INPUT : ℕ
-INVERSE_INPUT = 20
-
--- polyconic: a step of the inverse meets a pole (the cosine is below 1e-12 in size)
-abbrev pub STEP_AT_POLE : ℕ
-STEP_AT_POLE = 21
-
--- the steps of the inverse are used up before it settles (15 steps; polyconic 20)
-abbrev pub STEPS_USED_UP : ℕ
-STEPS_USED_UP = 22
-
--- the longitude or latitude worked out is not a finite number
-abbrev pub INVERSE_RESULT : ℕ
-INVERSE_RESULT = 23
-
--- the latitude worked out is beyond 90 degrees (pi/2 + 1e-12)
-abbrev pub INVERSE_BEYOND : ℕ
-INVERSE_BEYOND = 24
-
--- the area of use has an edge that is not a finite number, a west or east beyond 180 degrees (pi), a south or north beyond 90 degrees (pi/2 + 1e-12), or a south above its north
-abbrev pub AREA_EDGES : ℕ
-AREA_EDGES = 25
-
--- the place lies outside the area of use
-abbrev pub OUTSIDE_AREA : ℕ
-OUTSIDE_AREA = 26
-
--- the ring's lists have unequal lengths, it has fewer than 3 or more than 4,096 corners, or its projection is of another kind than L, S, A and E
-abbrev pub RING_FORM : ℕ
-RING_FORM = 27
-
--- a buffer is shorter than the ring's points, or the area worked out is not a finite number
-abbrev pub RING_RESULT : ℕ
-RING_RESULT = 28
-
--- there are no schools or more than 256, the coordinate lists have unequal lengths, the rolls or the places for the order are fewer than the schools, or a coordinate is not a finite number or above 1e8 in size
-abbrev pub NEAREST_INPUT : ℕ
-NEAREST_INPUT = 29
-
--- the easting and northing lie off the map, beyond its edge
-abbrev pub OFF_THE_MAP : ℕ
-OFF_THE_MAP = 30
-
--- the rate is above 1,000,000, there are no children or more than 60, or the distance is not a finite number or above 1,000,000 m
-abbrev pub CHARGE_INPUT : ℕ
-CHARGE_INPUT = 31
-
--- the columns have unequal lengths: nothing is read or written
-abbrev pub UNEQUAL_LENGTHS : ℕ
-UNEQUAL_LENGTHS = 255
+-- the number of an answer, whatever it is: 0 where there is one
+abbrev pub number : {T : Type 0} → Result T Refusal → ℕ
+number (Ok x) = 0
+number (Err r) = number_of r

@@ -1,18 +1,20 @@
 -- A place is tested as it stands; a refusal stays.
 use mathlib.Core.Path.{refl}
 use Rattle.projection.specs.AreaOfUse.{ensure_inside}
-use Rattle.projection.proofs.Refusal.{passes, refuses}
+use Rattle.refusals.proofs.Refused.{handed_on}
 use Rattle.projection.proofs.InArea.{refused_in_area}
 use Rattle.projection.proofs.area_of_use.ensure_inside.Goals as goal
 
-pub returns-then-outside-eq0 : goal.returns-then-outside-eq0
+pub returns-in_err-lon : goal.returns-in_err-lon
 unfolding ensure_inside
-returns-then-outside-eq0 c = rw c.in-Pair.is (passes _ _ _ c.if-outside-eq0.true c.validate_normalised-outside.ensures.0 refl, c.validate_normalised-outside.ensures.1 c.if-outside-eq0.true)
+returns-in_err-lon c = rw (handed_on c.from_residual.ensures, c.in_err-lon.was) (refl, refused_in_area _ _)
 
-pub returns-else-outside-eq0 : goal.returns-else-outside-eq0
+pub returns-in_err-validate_normalised : goal.returns-in_err-validate_normalised
 unfolding ensure_inside
-returns-else-outside-eq0 c = rw c.in-Pair.is (refuses _ _ _ c.if-outside-eq0.false c.validate_normalised-outside.ensures.0, refused_in_area _ _)
+returns-in_err-validate_normalised c =
+    rw (handed_on c.from_residual-in_err-validate_normalised.ensures, c.in_ok-lon.was, ← c.validate_normalised.ensures.0, c.in_err-validate_normalised.was) (refl, refused_in_area _ _)
 
-pub returns-in-Refused : goal.returns-in-Refused
+pub returns : goal.returns
 unfolding ensure_inside
-returns-in-Refused c = rw c.in-Refused.is (refl, refused_in_area _ _)
+returns c =
+    rw c.in_ok-lon.was (rw (← c.validate_normalised.ensures.0, c.in_ok-validate_normalised.was) refl, c.validate_normalised.ensures.1 c.in_ok-validate_normalised.was)

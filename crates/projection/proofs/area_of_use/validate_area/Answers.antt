@@ -6,20 +6,22 @@ use lib.Ieee.Scale.{finite}
 use Rattle.float.specs.Operators.{◌≺◌}
 use Rattle.float.specs.Constants.{PI}
 use Rattle.float.specs.Sign.{abs}
-use Rattle.refusals.specs.Refusals.{AREA_EDGES}
+use Rattle.std.specs.Prelude.{Err}
+use Rattle.refusals.specs.declared.Refusal.TheVariants.{AreaEdges}
+use Rattle.projection.specs.Checks.{passed}
 use Rattle.projection.specs.Bound.{LAT_BOUND}
 use Rattle.projection.specs.AreaOfUse.{validate_area}
 use Rattle.projection.specs.declared.Area.{Area}
 use Rattle.projection.proofs.area_of_use.validate_area.Goals as goal
 
 module _ (area : Area) {w e s n : Bool} (west : w ≡ finite area.west) (east : e ≡ finite area.east) (south : s ≡ finite area.south) (north : n ≡ finite area.north) where
-  not_finite : ((w && e) && (s && n)) ≡ false → AREA_EDGES ≡ validate_area area
+  not_finite : ((w && e) && (s && n)) ≡ false → Err AreaEdges ≡ validate_area area
   unfolding validate_area
   not_finite h = rw (← west, ← east, ← south, ← north, h) refl
 
   finite_edges : {x y u v : Float} (bad : Bool) → x ≡ abs area.west → y ≡ abs area.east → u ≡ abs area.south → v ≡ abs area.north
       → ((w && e) && (s && n)) ≡ true → ((PI ≺ x || PI ≺ y) || (LAT_BOUND ≺ u || LAT_BOUND ≺ v) || area.north ≺ area.south) ≡ bad
-      → cond bad AREA_EDGES 0 ≡ validate_area area
+      → cond bad (Err AreaEdges) passed ≡ validate_area area
   unfolding validate_area
   finite_edges bad p q r t h k = rw (← west, ← east, ← south, ← north, ← p, ← q, ← r, ← t, h, k) refl
 

@@ -4,15 +4,15 @@ use lib.Dec.{T}
 use lib.Ieee.{Float, binary64, fits}
 use Rattle.projection.specs.Ends.{ensure_finite_lon_lat, finish}
 use Rattle.projection.specs.OnTheMap.{OnTheMap}
-use Rattle.projection.specs.declared.Answer.{Answer}
-use Rattle.projection.specs.declared.Answer.TheVariants.{Pair}
+use Rattle.projection.specs.Answer.{Answer}
+use Rattle.std.specs.Prelude.{Ok}
 use Rattle.projection.proofs.OnTheMap.{finish_on_the_map}
 use Rattle.projection.proofs.ends.ensure_finite_lon_lat.Goals as goal
 
 both : (lon lat : Float) → T (fits binary64 lon) → T (fits binary64 lat) → {r : Answer} → r ≡ ensure_finite_lon_lat lon lat
-    → (r ≡ ensure_finite_lon_lat lon lat) × OnTheMap (Pair lon lat) r
+    → (r ≡ ensure_finite_lon_lat lon lat) × OnTheMap (Ok (lon, lat)) r
 unfolding finish
-both lon lat fit_lon fit_lat e = (e, rw e (finish_on_the_map (Pair lon lat) (fit_lon, fit_lat)))
+both lon lat fit_lon fit_lat e = (e, rw e (finish_on_the_map (Ok (lon, lat)) (fit_lon, fit_lat)))
 
 pub returns-then-abs : goal.returns-then-abs
 unfolding ensure_finite_lon_lat
