@@ -5,10 +5,10 @@ use lib.Ieee.{Float}
 use lib.Ieee.Scale.{finite}
 use Rattle.float.specs.Operators.{◌⊘◌, ◌≺◌, ◌≼◌}
 use Rattle.float.specs.Constants.{+0, one}
-use Rattle.refusals.specs.Refusals.{INVERSE_FLATTENING, SEMI_MAJOR_AXIS, FLATTENING}
+use Rattle.std.specs.Prelude.{Ok, Err}
+use Rattle.refusals.specs.declared.Refusal.TheVariants.{InverseFlattening, SemiMajorAxis, Flattening}
 use Rattle.ellipsoid.specs.Ellipsoid.{from_a_f, from_a_rf, sphere}
 use Rattle.ellipsoid.specs.AsInSource.{source_from_a_f, source_from_a_rf, source_sphere}
-use Rattle.ellipsoid.specs.declared.BuiltEllipsoid.TheVariants.{Built, Refused}
 use Rattle.ellipsoid.proofs.Negated.{zero_finite, one_finite, not_above, between_finite}
 
 -- of two tests, p that a is right, and q that f is; r, that f is finite, adds nothing
@@ -24,14 +24,14 @@ pub from_a_f_as_in_source : (a f : Float) → source_from_a_f a f ≡ from_a_f a
 unfolding from_a_f
 from_a_f_as_in_source a f =
     rw (not_above a +0 zero_finite)
-    (in_turn (finite a && +0 ≺ a) (finite f) (+0 ≼ f && f ≺ one) (Refused SEMI_MAJOR_AXIS) (Refused FLATTENING) (Built (record { a = a; f = f }))
+    (in_turn (finite a && +0 ≺ a) (finite f) (+0 ≼ f && f ≺ one) (Err SemiMajorAxis) (Err Flattening) (Ok (record { a = a; f = f }))
     (between_finite f +0 one zero_finite one_finite))
 
 pub from_a_rf_as_in_source : (a rf : Float) → source_from_a_rf a rf ≡ from_a_rf a rf
 unfolding from_a_rf
 from_a_rf_as_in_source a rf = rw (not_above rf one one_finite, from_a_f_as_in_source a (one ⊘ rf)) (go (finite rf && one ≺ rf))
   where
-    go : (p : Bool) → cond (not p) (Refused INVERSE_FLATTENING) (from_a_f a (one ⊘ rf)) ≡ cond p (from_a_f a (one ⊘ rf)) (Refused INVERSE_FLATTENING)
+    go : (p : Bool) → cond (not p) (Err InverseFlattening) (from_a_f a (one ⊘ rf)) ≡ cond p (from_a_f a (one ⊘ rf)) (Err InverseFlattening)
     go true = refl
     go false = refl
 

@@ -1,3 +1,2 @@
 pub mod Negated
 pub mod AsInSource
-pub mod NeverZero

@@ -1,27 +1,26 @@
 -- An ellipsoid by its semi-major axis a and its flattening f, and the numbers made of them, in the source's order of operations.
-use Rattle.std.specs.Prelude.{cond, ◌&&◌, Float}
+use Rattle.std.specs.Prelude.{cond, ◌&&◌, Float, Result, Ok, Err}
 use Rattle.std.specs.Float.Ieee.Scale.{finite}
 use Rattle.float.specs.Operators.{◌⊖◌, ◌⊗◌, ◌⊘◌, ◌≺◌, ◌≼◌, ◌≈◌}
 use Rattle.float.specs.Constants.{+0, one, two}
 use Rattle.root.specs.Root.{root}
 use Rattle.trigonometry.specs.Trigonometry.{sine}
 use Rattle.fixed.specs.Powers.{powf_3_2}
-use Rattle.refusals.specs.Refusals.{INVERSE_FLATTENING, SEMI_MAJOR_AXIS, FLATTENING}
+use Rattle.refusals.specs.declared.Refusal.{Refusal}
+use Rattle.refusals.specs.declared.Refusal.TheVariants.{InverseFlattening, SemiMajorAxis, Flattening}
 use Rattle.ellipsoid.specs.declared.Ellipsoid.{Ellipsoid}
-use Rattle.ellipsoid.specs.declared.BuiltEllipsoid.{BuiltEllipsoid}
-use Rattle.ellipsoid.specs.declared.BuiltEllipsoid.TheVariants.{Built, Refused}
 
 -- 4 before 5. What lies in [0, 1) is finite, so f is not asked to be. specs/AsInSource has the source's words.
-unfoldable pub from_a_f : Float → Float → BuiltEllipsoid
+unfoldable pub from_a_f : Float → Float → Result Ellipsoid Refusal
 from_a_f a f =
-    cond (finite a && +0 ≺ a) (cond (+0 ≼ f && f ≺ one) (Built (record { a = a; f = f })) (Refused FLATTENING))
-    (Refused SEMI_MAJOR_AXIS)
+    cond (finite a && +0 ≺ a) (cond (+0 ≼ f && f ≺ one) (Ok (record { a = a; f = f })) (Err Flattening))
+    (Err SemiMajorAxis)
 
-unfoldable pub from_a_rf : Float → Float → BuiltEllipsoid
+unfoldable pub from_a_rf : Float → Float → Result Ellipsoid Refusal
 unfolding from_a_f
-from_a_rf a rf = cond (finite rf && one ≺ rf) (from_a_f a (one ⊘ rf)) (Refused INVERSE_FLATTENING)
+from_a_rf a rf = cond (finite rf && one ≺ rf) (from_a_f a (one ⊘ rf)) (Err InverseFlattening)
 
-unfoldable pub sphere : Float → BuiltEllipsoid
+unfoldable pub sphere : Float → Result Ellipsoid Refusal
 unfolding from_a_f
 sphere radius = from_a_f radius +0
 

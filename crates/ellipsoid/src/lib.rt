@@ -13,10 +13,10 @@ use fixed::powf_3_2;
 use float::is_finite;
 pub use names::{
     AIRY1830, BESSEL1841, CLARKE1866, GRS80, INTL1924, KRASSOWSKY, Name, UNIT_SPHERE, WGS84,
-    WGS84_SPHERE, named,
+    WGS84_SPHERE,
 };
-use refusals::{FLATTENING, INVERSE_FLATTENING, SEMI_MAJOR_AXIS};
-pub use results::{built_flattening, built_number};
+use refusals::Refusal;
+pub use results::built_flattening;
 use root::root;
 use trigonometry::sin;
 pub use units::{deg_to_rad, rad_to_deg};
@@ -28,47 +28,44 @@ pub struct Ellipsoid {
     pub f: f64,
 }
 
-#[derive(Clone, Copy)]
-pub enum BuiltEllipsoid {
-    Built(Ellipsoid),
-    Refused(u8),
-}
-
 impl Ellipsoid {
     // From the semi-major axis and the inverse flattening.
-    pub fn from_a_rf(a: f64, rf: f64) -> BuiltEllipsoid
+    #[tactic(auto, unfolding(crate::specs::Ellipsoid::from_a_rf))]
+    pub fn from_a_rf(a: f64, rf: f64) -> Result<Ellipsoid, Refusal>
         ensures { result ≡ from_a_rf a rf }
     {
         if is_finite(rf) & (1.0 < rf) {
             Self::from_a_f(a, 1.0 / rf)
         } else {
-            BuiltEllipsoid::Refused(INVERSE_FLATTENING)
+            Err(Refusal::InverseFlattening)
         }
     }
 
     // From the semi-major axis and the flattening.
-    pub fn from_a_f(a: f64, f: f64) -> BuiltEllipsoid
+    #[tactic(auto, unfolding(crate::specs::Ellipsoid::from_a_f))]
+    pub fn from_a_f(a: f64, f: f64) -> Result<Ellipsoid, Refusal>
         ensures { result ≡ from_a_f a f }
     {
         if is_finite(a) & (0.0 < a) {
             if (0.0 <= f) & (f < 1.0) {
-                let built = Ellipsoid { a, f };
-                BuiltEllipsoid::Built(built)
+                Ok(Ellipsoid { a, f })
             } else {
-                BuiltEllipsoid::Refused(FLATTENING)
+                Err(Refusal::Flattening)
             }
         } else {
-            BuiltEllipsoid::Refused(SEMI_MAJOR_AXIS)
+            Err(Refusal::SemiMajorAxis)
         }
     }
 
-    pub fn sphere(radius: f64) -> BuiltEllipsoid
+    #[tactic(auto, unfolding(crate::specs::Ellipsoid::sphere))]
+    pub fn sphere(radius: f64) -> Result<Ellipsoid, Refusal>
         ensures { result ≡ sphere radius }
     {
         Self::from_a_f(radius, 0.0)
     }
 
     // 1/f, or 0 for a sphere.
+    #[tactic(auto, unfolding(crate::specs::Ellipsoid::inverse_flattening))]
     pub fn inverse_flattening(self) -> f64
         ensures { result ≡ inverse_flattening self }
     {
@@ -76,6 +73,7 @@ impl Ellipsoid {
     }
 
     // The semi-minor axis.
+    #[tactic(auto, unfolding(crate::specs::Ellipsoid::b))]
     pub fn b(self) -> f64
         ensures { result ≡ b self }
     {
@@ -83,6 +81,7 @@ impl Ellipsoid {
     }
 
     // The first eccentricity squared.
+    #[tactic(auto, unfolding(crate::specs::Ellipsoid::e2))]
     pub fn e2(self) -> f64
         ensures { result ≡ e2 self }
     {
@@ -90,6 +89,7 @@ impl Ellipsoid {
     }
 
     // The first eccentricity.
+    #[tactic(auto, unfolding(crate::specs::Ellipsoid::e))]
     pub fn e(self) -> f64
         ensures { result ≡ e self }
     {
@@ -97,6 +97,7 @@ impl Ellipsoid {
     }
 
     // The third flattening.
+    #[tactic(auto, unfolding(crate::specs::Ellipsoid::n))]
     pub fn n(self) -> f64
         ensures { result ≡ n self }
     {
@@ -104,6 +105,7 @@ impl Ellipsoid {
     }
 
     // The second eccentricity squared.
+    #[tactic(auto, unfolding(crate::specs::Ellipsoid::ep2))]
     pub fn ep2(self) -> f64
         ensures { result ≡ ep2 self }
     {
@@ -112,6 +114,7 @@ impl Ellipsoid {
     }
 
     // The radius of curvature in the prime vertical.
+    #[tactic(auto, unfolding(crate::specs::Ellipsoid::n_radius))]
     pub fn n_radius(self, phi: f64) -> f64
         ensures { result ≡ n_radius self phi }
     {
@@ -120,6 +123,7 @@ impl Ellipsoid {
     }
 
     // The radius of curvature in the meridian.
+    #[tactic(auto, unfolding(crate::specs::Ellipsoid::m_radius))]
     pub fn m_radius(self, phi: f64) -> f64
         ensures { result ≡ m_radius self phi }
     {

@@ -46,7 +46,7 @@ pub const WGS84_SPHERE: Ellipsoid = Ellipsoid {
     f: 0.0,
 };
 
-#[derive(Clone, Copy)]
+#[derive(Clone, Copy, Debug, PartialEq, Eq)]
 pub enum Name {
     Wgs84,
     Grs80,
@@ -60,18 +60,21 @@ pub enum Name {
 }
 
 // The ellipsoid of a name: its constant above.
-pub fn named(name: Name) -> Ellipsoid
-    ensures { result ≡ named name }
-{
-    match name {
-        Name::Wgs84 => WGS84,
-        Name::Grs80 => GRS80,
-        Name::Clarke1866 => CLARKE1866,
-        Name::Intl1924 => INTL1924,
-        Name::Bessel1841 => BESSEL1841,
-        Name::Krassowsky => KRASSOWSKY,
-        Name::Airy1830 => AIRY1830,
-        Name::UnitSphere => UNIT_SPHERE,
-        Name::Wgs84Sphere => WGS84_SPHERE,
+impl From<Name> for Ellipsoid {
+    ghost from_gives = { λ name ellipsoid. ellipsoid ≡ named name };
+
+    #[tactic(auto, unfolding(crate::specs::Names::named))]
+    fn from(name: Name) -> Ellipsoid {
+        match name {
+            Name::Wgs84 => WGS84,
+            Name::Grs80 => GRS80,
+            Name::Clarke1866 => CLARKE1866,
+            Name::Intl1924 => INTL1924,
+            Name::Bessel1841 => BESSEL1841,
+            Name::Krassowsky => KRASSOWSKY,
+            Name::Airy1830 => AIRY1830,
+            Name::UnitSphere => UNIT_SPHERE,
+            Name::Wgs84Sphere => WGS84_SPHERE,
+        }
     }
 }

@@ -1,8 +1,0 @@
--- Arm by arm.
-use Rattle.ellipsoid.proofs.results.built_flattening.Goals as goal
-
-pub returns-in-Built : goal.returns-in-Built
-returns-in-Built c = rw c.in-Built.is
-
-pub returns-in-Refused : goal.returns-in-Refused
-returns-in-Refused c = rw c.in-Refused.is
