@@ -1,30 +1,28 @@
 -- What an area of use changes, and what it leaves: without one every answer is the kind's own, and with one a place inside has the same bits.
-use Prim.Native.Nat.{ℕ, zero, suc}
+use Prim.Native.Nat.{ℕ}
 use mathlib.Core.Path.{◌≡◌, refl, sym, ◌∙◌}
-use mathlib.Core.Bool.{Bool, true, false, cond, ◌||◌, or-true}
 use mathlib.Core.List.{List}
 use native.Mathlib.Omega.{arith}
-use lib.Dec.{eqb}
-use borrow.Author.Tests.{eqb-true}
 use lib.Ieee.{Float}
-use Rattle.projection.specs.Checks.{guard, or_else, validate_lon_lat}
+use Rattle.std.specs.Prelude.{Option, Some, None, Result, Ok, Err}
+use Rattle.std.specs.Result.{result_and}
+use Rattle.refusals.specs.Refusals.{number}
+use Rattle.refusals.specs.declared.Refusal.{Refusal}
+use Rattle.refusals.proofs.Refused.{refused}
+use Rattle.projection.specs.Answer.{Answer, pair}
+use Rattle.projection.specs.Checks.{Check, passed, validate_lon_lat}
 use Rattle.projection.specs.AreaOfUse.{validate_area, validate_normalised, validate_place, ensure_inside}
 use Rattle.projection.specs.Ends.{finish}
 use Rattle.projection.specs.InArea.{InUnits, InArea}
 use Rattle.projection.specs.OnTheMap.{OnTheMap}
-use Rattle.projection.specs.declared.Answer.{Answer}
-use Rattle.projection.specs.declared.Answer.TheVariants as answered
 use Rattle.projection.specs.declared.Area.{Area}
-use Rattle.projection.specs.declared.AreaOfUse.TheVariants.{Anywhere, Inside}
+use Rattle.projection.specs.declared.Settings.{Settings}
 use Rattle.projection.specs.declared.Frame.TheVariants.{Held}
 use Rattle.projection.proofs.Entered.{checked_once}
 use Rattle.projection.proofs.InArea.{inside_anywhere, inside_passed, inside_answered, answered_in_units}
-use Rattle.projection.proofs.Refusal.{guard_passed, guard_refused, guard_or_else}
 use Rattle.projection.proofs.SoundArea.{edges_finite}
 use Rattle.ellipsoid.specs.Ellipsoid.{from_a_f}
 use Rattle.ellipsoid.specs.declared.Ellipsoid.{Ellipsoid}
-use Rattle.ellipsoid.specs.declared.BuiltEllipsoid.{BuiltEllipsoid}
-use Rattle.ellipsoid.specs.declared.BuiltEllipsoid.TheVariants as ellipsoid
 use Rattle.lambert_azimuthal_equal_area.specs.Forward as laea
 use Rattle.albers_equal_area.specs.AlbersEqualArea as aea
 use Rattle.equal_earth.specs.EqualEarth as eqearth
@@ -36,97 +34,84 @@ use Rattle.letters.specs.declared.Kind.{Kind}
 use Rattle.letters.specs.declared.Kind.TheVariants.{L, S, A, E, C, P, G}
 use Rattle.letters.specs.declared.Way.{Way}
 use Rattle.letters.specs.declared.Way.TheVariants.{Forward, Inverse}
-use Rattle.letters.specs.declared.Settings.{Settings}
-use Rattle.kinds.specs.Kinds.{made, new, number_of, built_number, is_refused, forward_of, forward, formula_of, formula_in, formula, inverse_of, inverse, inverse_in, answer_in, refused, on_ellipsoid, build, project, with_area}
+use Rattle.kinds.specs.Kinds.{and_then, plain, made, new, built_number, forward_of, forward, formula_of, formula_in, formula, inverse_of, inverse, inverse_in, answer_in, refused as no_projection, on_ellipsoid, build, project, checked_area, with_area}
 use Rattle.kinds.specs.declared.Built.{Built}
-use Rattle.kinds.specs.declared.Built.TheVariants.{Lambert, Albers, Equal, Cassini, Polyconic, Guam, Refused}
+use Rattle.kinds.specs.declared.Built.TheVariants.{Lambert, Albers, Equal, Cassini, Polyconic, Guam}
 use Rattle.kinds.specs.declared.Projection.{Projection}
+
+-- ---- the kind's own answers, without an area of use
+
+-- a projection that was refused answers by its own refusal
+abbrev pub own_forward : Projection → Float → Float → Answer
+own_forward p lon lat = and_then p.built (λ b. forward_of b p.en lon lat)
+
+abbrev pub own_inverse : Projection → Float → Float → Answer
+own_inverse p x y = and_then p.built (λ b. inverse_of Held b p.en x y)
 
 -- ---- forward
 
 -- every kind checks the place first
-checked_by_kind : (b : Built) (en : List Float) (lon lat : Float) → is_refused b ≡ false
-    → guard (validate_lon_lat lon lat) answered.Refused (forward_of b en lon lat) ≡ forward_of b en lon lat
-unfolding is_refused forward_of laea.forward aea.forward eqearth.forward cass.forward poly.forward gm.forward
-checked_by_kind (Lambert p) en lon lat e = checked_once _ lon lat p.lon0
-checked_by_kind (Albers p) en lon lat e = checked_once _ lon lat p.lon0
-checked_by_kind (Equal p) en lon lat e = checked_once _ lon lat p.lon0
-checked_by_kind (Cassini p) en lon lat e = checked_once _ lon lat p.lon0
-checked_by_kind (Polyconic p) en lon lat e = checked_once _ lon lat p.lon0
-checked_by_kind (Guam p) en lon lat e = checked_once _ lon lat p.lon0
-checked_by_kind (Refused n) en lon lat e = let z : ◌≡◌ {A = ℕ} 0 1 = cc in absurd (omega arith)
-
-last_zero : (m v : ℕ) → or_else m v ≡ 0 → v ≡ 0
-unfolding or_else
-last_zero zero v z = z
-last_zero (suc m) v z = absurd (omega (arith, z))
-
-not_zero : (m v : ℕ) → or_else m v ≡ 0 → eqb v 0 ≡ false → ⊥
-not_zero m v z t = let c : true ≡ false = rw (last_zero m v z) at t in let d : ◌≡◌ {A = ℕ} 0 1 = cc in omega arith
-
--- what `forward` is, of a projection that is refused or not (r), with the number m of 16 and 17 and v of 26
-module _ (r : Bool) (m v : ℕ) (a : Answer) where
-  abbrev whole : Answer
-  whole = cond r a (guard (or_else m v) answered.Refused a)
-
-  stays : (r || eqb v 0) ≡ true → (r ≡ false → guard m answered.Refused a ≡ a) → a ≡ whole
-  stays t h = go r refl t
-    where
-      go : (b : Bool) → r ≡ b → (b || eqb v 0) ≡ true → a ≡ cond b a (guard (or_else m v) answered.Refused a)
-      go true e t = refl
-      go false e t = rw (guard_or_else m v answered.Refused a, guard_passed v answered.Refused a (eqb-true v 0 t)) (sym (h e))
-
-  refused_by : (r || eqb v 0) ≡ false → answered.Refused (or_else m v) ≡ whole
-  refused_by t = go r t
-    where
-      go : (b : Bool) → (b || eqb v 0) ≡ false → answered.Refused (or_else m v) ≡ cond b a (guard (or_else m v) answered.Refused a)
-      go true t = let z : ◌≡◌ {A = ℕ} 0 1 = cc in absurd (omega arith)
-      go false t = sym (guard_refused (or_else m v) answered.Refused a (λ z. not_zero m v z t))
+pub checked_by_kind : (b : Built) (en : List Float) (lon lat : Float) → result_and (validate_lon_lat lon lat) (forward_of b en lon lat) ≡ forward_of b en lon lat
+unfolding forward_of laea.forward aea.forward eqearth.forward cass.forward poly.forward gm.forward
+checked_by_kind (Lambert p) en lon lat = checked_once _ lon lat p.lon0
+checked_by_kind (Albers p) en lon lat = checked_once _ lon lat p.lon0
+checked_by_kind (Equal p) en lon lat = checked_once _ lon lat p.lon0
+checked_by_kind (Cassini p) en lon lat = checked_once _ lon lat p.lon0
+checked_by_kind (Polyconic p) en lon lat = checked_once _ lon lat p.lon0
+checked_by_kind (Guam p) en lon lat = checked_once _ lon lat p.lon0
 
 module _ (p : Projection) (lon lat : Float) where
-  -- the two branches of the code, where r says whether it is refused, and m and v are the numbers of 16 and 17 and of 26
-  module _ {r : Bool} {v : ℕ} (is : r ≡ is_refused p.built) (outside : v ≡ validate_place p.area lon lat) where
-    pub forward_stays : (r || eqb v 0) ≡ true → forward_of p.built p.en lon lat ≡ forward p lon lat
-    unfolding forward
-    forward_stays t =
-        rw (← is, ← outside) (stays r (validate_lon_lat lon lat) v (forward_of p.built p.en lon lat) t (λ e. checked_by_kind p.built p.en lon lat (sym is ∙ e)))
-
-    pub forward_refused : {m : ℕ} → m ≡ validate_lon_lat lon lat → (r || eqb v 0) ≡ false → answered.Refused (or_else m v) ≡ forward p lon lat
-    unfolding forward
-    forward_refused {m} e t = rw (← is, ← outside, ← e) (refused_by r m v (forward_of p.built p.en lon lat) t)
-
   -- a place inside has the kind's own answer
-  pub forward_inside : validate_place p.area lon lat ≡ 0 → forward p lon lat ≡ forward_of p.built p.en lon lat
-  forward_inside z = sym (forward_stays refl refl (rw z (or-true (is_refused p.built))))
+  pub forward_inside : validate_place p.area lon lat ≡ passed → forward p lon lat ≡ own_forward p lon lat
+  unfolding forward
+  forward_inside z = rw z (go p.built)
+    where
+      go : (b : Result Built Refusal)
+          → and_then b (λ k. result_and (validate_lon_lat lon lat) (forward_of k p.en lon lat)) ≡ and_then b (λ k. forward_of k p.en lon lat)
+      go (Ok b) = checked_by_kind b p.en lon lat
+      go (Err r) = refl
 
   -- and so has every place without an area
-  pub forward_anywhere : p.area ≡ Anywhere → forward p lon lat ≡ forward_of p.built p.en lon lat
+  pub forward_anywhere : p.area ≡ None → forward p lon lat ≡ own_forward p lon lat
   unfolding validate_place validate_normalised
   forward_anywhere e = forward_inside (rw e refl)
 
 -- ---- back
 
 module _ (p : Projection) (x y : Float) where
-  pub inverse_anywhere : p.area ≡ Anywhere → inverse p x y ≡ inverse_of Held p.built p.en x y
+  pub inverse_anywhere : p.area ≡ None → inverse p x y ≡ own_inverse p x y
   unfolding inverse_in
-  inverse_anywhere e = rw e (inside_anywhere (inverse_of Held p.built p.en x y))
+  inverse_anywhere e = rw e (go p.built)
+    where
+      go : (b : Result Built Refusal)
+          → and_then b (λ k. ensure_inside None (inverse_of Held k p.en x y)) ≡ and_then b (λ k. inverse_of Held k p.en x y)
+      go (Ok b) = inside_anywhere (inverse_of Held b p.en x y)
+      go (Err r) = refl
 
   -- a place inside that the kind answers has the same bits, and so what is answered is the kind's own answer
-  pub inverse_inside : (lon lat : Float) → inverse_of Held p.built p.en x y ≡ answered.Pair lon lat → validate_normalised p.area lon lat ≡ 0
-      → inverse p x y ≡ answered.Pair lon lat
+  pub inverse_inside : (lon lat : Float) → own_inverse p x y ≡ pair lon lat → validate_normalised p.area lon lat ≡ passed → inverse p x y ≡ pair lon lat
   unfolding inverse_in
-  inverse_inside lon lat e z = rw e (inside_passed p.area lon lat z)
+  inverse_inside lon lat e z = go p.built e
+    where
+      go : (b : Result Built Refusal) → and_then b (λ k. inverse_of Held k p.en x y) ≡ pair lon lat
+          → and_then b (λ k. ensure_inside p.area (inverse_of Held k p.en x y)) ≡ pair lon lat
+      go (Ok b) f = rw f (inside_passed p.area lon lat z)
+      go (Err r) f = f
 
-  pub inverse_answered : (lon lat : Float) → inverse p x y ≡ answered.Pair lon lat
-      → (inverse_of Held p.built p.en x y ≡ answered.Pair lon lat) × (validate_normalised p.area lon lat ≡ 0)
+  pub inverse_answered : (lon lat : Float) → inverse p x y ≡ pair lon lat → (own_inverse p x y ≡ pair lon lat) × (validate_normalised p.area lon lat ≡ passed)
   unfolding inverse_in
-  inverse_answered lon lat e = inside_answered p.area (inverse_of Held p.built p.en x y) lon lat e
+  inverse_answered lon lat e = go p.built e
+    where
+      go : (b : Result Built Refusal) → and_then b (λ k. ensure_inside p.area (inverse_of Held k p.en x y)) ≡ pair lon lat
+          → (and_then b (λ k. inverse_of Held k p.en x y) ≡ pair lon lat) × (validate_normalised p.area lon lat ≡ passed)
+      go (Ok b) f = inside_answered p.area (inverse_of Held b p.en x y) lon lat f
+      go (Err r) f = refused f
 
 -- ---- building
 
 -- what is built without an area has none
-made_anywhere : (kind : Kind) (e : Ellipsoid) (s : Settings) → (made kind e s).area ≡ Anywhere
-unfolding made
+made_anywhere : (kind : Kind) (e : Ellipsoid) (s : Settings) → (made kind e s).area ≡ None
+unfolding made plain
 made_anywhere L e s = refl
 made_anywhere S e s = refl
 made_anywhere A e s = refl
@@ -135,18 +120,18 @@ made_anywhere C e s = refl
 made_anywhere P e s = refl
 made_anywhere G e s = refl
 
-pub build_anywhere : (kind : Kind) (a f : Float) (s : Settings) → (build kind a f s).area ≡ Anywhere
-unfolding build new refused
+pub build_anywhere : (kind : Kind) (a f : Float) (s : Settings) → (build kind a f s).area ≡ None
+unfolding build new no_projection plain
 build_anywhere kind a f s = go (from_a_f a f)
   where
-    go : (b : BuiltEllipsoid) → (on_ellipsoid kind s b).area ≡ Anywhere
-    go (ellipsoid.Built e) = made_anywhere kind e (used kind s)
-    go (ellipsoid.Refused n) = refl
+    go : (b : Result Ellipsoid Refusal) → (on_ellipsoid kind s b).area ≡ None
+    go (Ok e) = made_anywhere kind e (used kind s)
+    go (Err r) = refl
 
 -- so a point of a sheet, or of any projection built without an area, is answered as document 01 says
 abbrev pub by_kind : Way → Projection → Float → Float → Answer
-by_kind Forward p u v = forward_of p.built p.en u v
-by_kind Inverse p u v = inverse_of Held p.built p.en u v
+by_kind Forward p u v = own_forward p u v
+by_kind Inverse p u v = own_inverse p u v
 
 pub project_anywhere : (way : Way) (kind : Kind) (a f : Float) (s : Settings) (u v : Float)
     → project way kind a f s u v ≡ by_kind way (build kind a f s) u v
@@ -154,34 +139,31 @@ unfolding project answer_in
 project_anywhere Forward kind a f s u v = forward_anywhere (build kind a f s) u v (build_anywhere kind a f s)
 project_anywhere Inverse kind a f s u v = inverse_anywhere (build kind a f s) u v (build_anywhere kind a f s)
 
--- with an area: the kind's numbers and then 25; and where it is built it is the same projection, with the area
+-- with an area: the kind's refusal and then 25; and where it is built it is the same projection, with the area
 module _ (p : Projection) (area : Area) where
-  pub with_area_number : built_number (with_area p area) ≡ or_else (built_number p) (validate_area area)
-  unfolding with_area built_number refused guard or_else
-  with_area_number = go (number_of p.built) (validate_area area) refl
+  pub with_area_number : built_number (with_area p area) ≡ number (result_and p.built (validate_area area))
+  unfolding with_area no_projection plain
+  with_area_number = go p.built (validate_area area) refl
     where
-      go : (m v : ℕ) → number_of p.built ≡ m
-          → number_of (guard (or_else m v) refused (record { built = p.built; en = p.en; area = Inside area })).built ≡ or_else m v
-      go zero zero e = e
-      go zero (suc v) e = refl
-      go (suc m) v e = refl
+      go : (b : Result Built Refusal) (c : Check) → p.built ≡ b → built_number (checked_area p area (result_and b c)) ≡ number (result_and b c)
+      go (Ok b) (Ok x) e = rw e refl
+      go (Ok b) (Err r) e = refl
+      go (Err r) c e = refl
 
-  pub with_area_built : built_number p ≡ 0 → validate_area area ≡ 0 → with_area p area ≡ record { built = p.built; en = p.en; area = Inside area }
-  unfolding with_area or_else guard
-  with_area_built e z = rw (e, z) refl
+  pub with_area_built : (b : Built) → p.built ≡ Ok b → validate_area area ≡ passed → with_area p area ≡ record { built = p.built; en = p.en; area = Some area }
+  unfolding with_area
+  with_area_built b e z = rw (e, z) refl
 
 -- What `kinds::inverse` promises is exact for such a projection: whatever it answers lies inside in whole units, with no word about the edges.
 module _ (p : Projection) (area : Area) (x y lon lat : Float) where
   pub with_area_in_units : OnTheMap (formula (with_area p area) x y) (inverse (with_area p area) x y)
       → InArea (with_area p area).area (inverse (with_area p area) x y)
-      → inverse (with_area p area) x y ≡ answered.Pair lon lat → InUnits area lon lat
-  unfolding with_area guard refused inverse_in inverse_of formula_in formula_of finish ensure_inside
-  with_area_in_units = go (or_else (built_number p) (validate_area area)) refl
+      → inverse (with_area p area) x y ≡ pair lon lat → InUnits area lon lat
+  unfolding with_area no_projection plain inverse_in
+  with_area_in_units = go p.built (validate_area area) refl refl
     where
-      inside : Projection
-      inside = record { built = p.built; en = p.en; area = Inside area }
-
-      go : (n : ℕ) → or_else (built_number p) (validate_area area) ≡ n → (let q = guard n refused inside in
-          OnTheMap (formula q x y) (inverse q x y) → InArea q.area (inverse q x y) → inverse q x y ≡ answered.Pair lon lat → InUnits area lon lat)
-      go zero z on held e = answered_in_units area _ _ lon lat (edges_finite area (last_zero (built_number p) (validate_area area) z)) on held e
-      go (suc n) z on held e = let c : ◌≡◌ {A = ℕ} 0 1 = cc in absurd (omega arith)
+      go : (b : Result Built Refusal) (c : Check) → p.built ≡ b → validate_area area ≡ c → (let q = checked_area p area (result_and b c) in
+          OnTheMap (formula q x y) (inverse q x y) → InArea q.area (inverse q x y) → inverse q x y ≡ pair lon lat → InUnits area lon lat)
+      go (Ok b) (Ok v) e z on held f = answered_in_units area _ _ lon lat (edges_finite area z) on held f
+      go (Ok b) (Err r) e z on held f = refused f
+      go (Err r) c e z on held f = refused f

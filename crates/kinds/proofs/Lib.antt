@@ -1,4 +1,3 @@
 pub mod Unused
 pub mod AreaOfUse
 pub mod OffTheMap
-pub mod NeverZero

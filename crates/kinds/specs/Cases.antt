@@ -8,10 +8,9 @@ use Rattle.float.specs.Constants.{+0, one, two, four, PI, FRAC_PI_2, LO, ratio}
 use Rattle.root.specs.Root.{root}
 use Rattle.trigonometry.specs.Trigonometry.{cosine}
 use Rattle.ellipsoid.specs.Ellipsoid.{from_a_rf, from_a_f}
-use Rattle.ellipsoid.specs.Results.{built_number}
 use Rattle.projection.specs.Bound.{LAT_BOUND}
 use Rattle.projection.specs.Longitude.{normalize_longitude}
-use Rattle.projection.specs.Results.{number}
+use Rattle.refusals.specs.Refusals.{number}
 use Rattle.letters.specs.declared.Kind.{Kind}
 use Rattle.letters.specs.declared.Kind.TheVariants.{L, S, C, P}
 use Rattle.letters.specs.declared.Way.{Way}
@@ -58,8 +57,8 @@ table =
     ∷ row "M4: root of 4" (value (root four)) (value two)
     ∷ row "M5: root of -0" (value (root (neg +0))) (value (neg +0))
     ∷ row "M6: cosine of FRAC_PI_2" (value (cosine FRAC_PI_2)) (value LO)
-    ∷ row "M7: 1/f = 1" (refusal (built_number (from_a_rf one one))) (refusal 3)
-    ∷ row "M8: f = 1" (refusal (built_number (from_a_f one one))) (refusal 5)
+    ∷ row "M7: 1/f = 1" (refusal (number (from_a_rf one one))) (refusal 3)
+    ∷ row "M8: f = 1" (refusal (number (from_a_f one one))) (refusal 5)
     ∷ row "M9: Lambert, f = 1 - 2^-53" (point Forward L BELOW_ONE +0 +0 +0) (refusal 12)
     ∷ row "M10: Lambert, f = 0, lat0 at the bound" (point Forward L +0 LAT_BOUND +0 +0) (refusal 13)
     ∷ row "M10: the next f64 above" (point Forward L +0 ABOVE_BOUND +0 +0) (refusal 8)

@@ -1,119 +1,70 @@
 -- The choice over the seven kinds, with the meridian numbers and the area of use beside it.
-use Rattle.std.specs.Prelude.{ℕ, Bool, true, false, cond, List, replicate, Float}
+use Rattle.std.specs.Prelude.{ℕ, Bool, true, false, cond, List, replicate, Float, Option, Some, None, Result, Ok, Err, ⊤}
+use Rattle.std.specs.Result.{result_and}
 use Rattle.float.specs.Constants.{+0}
+use Rattle.refusals.specs.Refusals.{number}
+use Rattle.refusals.specs.declared.Refusal.{Refusal}
 use Rattle.ellipsoid.specs.Ellipsoid.{from_a_f}
 use Rattle.ellipsoid.specs.declared.Ellipsoid.{Ellipsoid}
-use Rattle.ellipsoid.specs.declared.BuiltEllipsoid.{BuiltEllipsoid}
-use Rattle.ellipsoid.specs.declared.BuiltEllipsoid.TheVariants as ellipsoid
+use Rattle.projection.specs.Answer.{Answer}
 use Rattle.projection.specs.AreaOfUse.{validate_area, validate_place, ensure_inside}
-use Rattle.projection.specs.Checks.{or_else, guard, validate_lon_lat}
+use Rattle.projection.specs.Checks.{Check, validate_lon_lat}
 use Rattle.projection.specs.Ends.{finish}
-use Rattle.projection.specs.declared.Answer.{Answer}
-use Rattle.projection.specs.declared.Answer.TheVariants as answered
 use Rattle.projection.specs.declared.Area.{Area}
-use Rattle.projection.specs.declared.AreaOfUse.TheVariants.{Anywhere, Inside}
+use Rattle.projection.specs.declared.Settings.{Settings}
 use Rattle.projection.specs.declared.Frame.{Frame}
 use Rattle.projection.specs.declared.Frame.TheVariants as frame
 use Rattle.lambert_azimuthal_equal_area.specs.LambertAzimuthalEqualArea as laea
 use Rattle.lambert_azimuthal_equal_area.specs.Forward as laea_forward
 use Rattle.lambert_azimuthal_equal_area.specs.Inverse as laea_inverse
-use Rattle.lambert_azimuthal_equal_area.specs.declared.BuiltLambertAzimuthalEqualArea.{BuiltLambertAzimuthalEqualArea}
-use Rattle.lambert_azimuthal_equal_area.specs.declared.BuiltLambertAzimuthalEqualArea.TheVariants as laea_built
 use Rattle.albers_equal_area.specs.AlbersEqualArea as aea
-use Rattle.albers_equal_area.specs.declared.BuiltAlbersEqualArea.{BuiltAlbersEqualArea}
-use Rattle.albers_equal_area.specs.declared.BuiltAlbersEqualArea.TheVariants as aea_built
 use Rattle.equal_earth.specs.EqualEarth as eqearth
-use Rattle.equal_earth.specs.declared.BuiltEqualEarth.{BuiltEqualEarth}
-use Rattle.equal_earth.specs.declared.BuiltEqualEarth.TheVariants as eqearth_built
 use Rattle.cassini_soldner.specs.CassiniSoldner as cass
-use Rattle.cassini_soldner.specs.declared.BuiltCassiniSoldner.{BuiltCassiniSoldner}
-use Rattle.cassini_soldner.specs.declared.BuiltCassiniSoldner.TheVariants as cass_built
 use Rattle.american_polyconic.specs.AmericanPolyconic as poly
-use Rattle.american_polyconic.specs.declared.BuiltAmericanPolyconic.{BuiltAmericanPolyconic}
-use Rattle.american_polyconic.specs.declared.BuiltAmericanPolyconic.TheVariants as poly_built
 use Rattle.guam_projection.specs.GuamProjection as gm
-use Rattle.guam_projection.specs.declared.BuiltGuamProjection.{BuiltGuamProjection}
-use Rattle.guam_projection.specs.declared.BuiltGuamProjection.TheVariants as gm_built
 use Rattle.letters.specs.Uses.{used}
 use Rattle.letters.specs.declared.Kind.{Kind}
 use Rattle.letters.specs.declared.Kind.TheVariants.{L, S, A, E, C, P, G}
 use Rattle.letters.specs.declared.Way.{Way}
 use Rattle.letters.specs.declared.Way.TheVariants.{Forward, Inverse}
-use Rattle.letters.specs.declared.Settings.{Settings}
 use Rattle.kinds.specs.declared.Built.{Built}
-use Rattle.kinds.specs.declared.Built.TheVariants.{Lambert, Albers, Equal, Cassini, Polyconic, Guam, Refused}
+use Rattle.kinds.specs.declared.Built.TheVariants.{Lambert, Albers, Equal, Cassini, Polyconic, Guam}
 use Rattle.kinds.specs.declared.Projection.{Projection}
-use Rattle.kinds.specs.declared.SecondInverse.{SecondInverse}
-use Rattle.kinds.specs.declared.SecondInverse.TheVariants.{Gives, Missing}
 
--- ---- what the constructor of a kind answers, as a choice
+-- what is made of an answer, if there is one; a refusal stays
+abbrev pub result_map : {A B : Type 0} → (A → B) → Result A Refusal → Result B Refusal
+result_map f (Ok x) = Ok (f x)
+result_map f (Err r) = Err r
 
-unfoldable pub lambert : BuiltLambertAzimuthalEqualArea → Built
-lambert (laea_built.Built p) = Lambert p
-lambert (laea_built.Refused n) = Refused n
-
-unfoldable pub albers : BuiltAlbersEqualArea → Built
-albers (aea_built.Built p) = Albers p
-albers (aea_built.Refused n) = Refused n
-
-unfoldable pub equal_earth : BuiltEqualEarth → Built
-equal_earth (eqearth_built.Built p) = Equal p
-equal_earth (eqearth_built.Refused n) = Refused n
-
-unfoldable pub cassini : BuiltCassiniSoldner → Built
-cassini (cass_built.Built p) = Cassini p
-cassini (cass_built.Refused n) = Refused n
-
-unfoldable pub polyconic : BuiltAmericanPolyconic → Built
-polyconic (poly_built.Built p) = Polyconic p
-polyconic (poly_built.Refused n) = Refused n
-
-unfoldable pub guam : BuiltGuamProjection → Built
-guam (gm_built.Built p) = Guam p
-guam (gm_built.Refused n) = Refused n
+-- the source's `?`: what follows an answer; a refusal stays
+abbrev pub and_then : {A B : Type 0} → Result A Refusal → (A → Result B Refusal) → Result B Refusal
+and_then (Ok x) f = f x
+and_then (Err r) f = Err r
 
 -- a kind that has no meridian numbers; without an area of use, as every projection that is made here
-abbrev pub plain : Built → Projection
-plain built = record { built = built; en = replicate 13 +0; area = Anywhere }
+unfoldable pub plain : Result Built Refusal → Projection
+plain built = record { built = built; en = replicate 13 +0; area = None }
 
 -- ---- a projection of a kind
 
 -- by settings of which each that the kind does not use is +0
 unfoldable pub made : Kind → Ellipsoid → Settings → Projection
-made L e s = plain (lambert (laea.new e s.lon0 s.lat0 s.false_easting s.false_northing))
-made S e s = plain (lambert (laea.new_spherical e s.lon0 s.lat0 s.false_easting s.false_northing))
-made A e s = plain (albers (aea.new e s.lon0 s.lat0 s.lat1 s.lat2 s.false_easting s.false_northing))
-made E e s = plain (equal_earth (eqearth.new e s.lon0 s.false_easting s.false_northing))
-made C e s = plain (cassini (cass.new e s.lon0 s.lat0 s.false_easting s.false_northing))
-made P e s = let q = poly.new e s.lon0 s.lat0 s.false_easting s.false_northing in record { built = polyconic q.built; en = q.en; area = Anywhere }
-made G e s = let q = gm.new e s.lon0 s.lat0 s.false_easting s.false_northing in record { built = guam q.built; en = q.en; area = Anywhere }
+unfolding plain
+made L e s = plain (result_map Lambert (laea.new e s))
+made S e s = plain (result_map Lambert (laea.new_spherical e s))
+made A e s = plain (result_map Albers (aea.new e s))
+made E e s = plain (result_map Equal (eqearth.new e s))
+made C e s = plain (result_map Cassini (cass.new e s))
+made P e s = let q = poly.new e s in record { built = result_map Polyconic q.built; en = q.en; area = None }
+made G e s = let q = gm.new e s in record { built = result_map Guam q.built; en = q.en; area = None }
 
 unfoldable pub new : Kind → Ellipsoid → Settings → Projection
 unfolding made
 new k e s = made k e (used k s)
 
 -- 0 where it is built, or the number of its refusal
-unfoldable pub number_of : Built → ℕ
-number_of (Lambert p) = 0
-number_of (Albers p) = 0
-number_of (Equal p) = 0
-number_of (Cassini p) = 0
-number_of (Polyconic p) = 0
-number_of (Guam p) = 0
-number_of (Refused n) = n
-
-unfoldable pub built_number : Projection → ℕ
-unfolding number_of
-built_number p = number_of p.built
-
-unfoldable pub is_refused : Built → Bool
-is_refused (Lambert p) = false
-is_refused (Albers p) = false
-is_refused (Equal p) = false
-is_refused (Cassini p) = false
-is_refused (Polyconic p) = false
-is_refused (Guam p) = false
-is_refused (Refused n) = true
+abbrev pub built_number : Projection → ℕ
+built_number p = number p.built
 
 -- ---- points
 
@@ -125,14 +76,11 @@ forward_of (Equal p) en lon lat = eqearth.forward p lon lat
 forward_of (Cassini p) en lon lat = cass.forward p lon lat
 forward_of (Polyconic p) en lon lat = poly.forward p en lon lat
 forward_of (Guam p) en lon lat = gm.forward p en lon lat
-forward_of (Refused n) en lon lat = answered.Refused n
 
 -- 16 and 17, then 26; a projection that was refused has its own number before them. The formula gets the longitude as it was given.
 unfoldable pub forward : Projection → Float → Float → Answer
-unfolding is_refused forward_of
-forward p lon lat =
-    let by_kind = forward_of p.built p.en lon lat in
-    cond (is_refused p.built) by_kind (guard (or_else (validate_lon_lat lon lat) (validate_place p.area lon lat)) answered.Refused by_kind)
+unfolding forward_of
+forward p lon lat = and_then p.built (λ b. result_and (validate_lon_lat lon lat) (result_and (validate_place p.area lon lat) (forward_of b p.en lon lat)))
 
 -- The place before its longitude is normalised, with 01's "formula's longitude". Lambert and Equal Earth answer a click in the map's frame, or refuse it;
 -- the others know no frame.
@@ -143,11 +91,10 @@ formula_of frame (Equal p) en x y = eqearth.formula frame p x y
 formula_of frame (Cassini p) en x y = cass.formula p x y
 formula_of frame (Polyconic p) en x y = poly.formula p en x y
 formula_of frame (Guam p) en x y = gm.formula p en x y
-formula_of frame (Refused n) en x y = answered.Refused n
 
 unfoldable pub formula_in : Frame → Projection → Float → Float → Answer
 unfolding formula_of
-formula_in frame p x y = formula_of frame p.built p.en x y
+formula_in frame p x y = and_then p.built (λ b. formula_of frame b p.en x y)
 
 -- back by the kind alone
 unfoldable pub inverse_of : Frame → Built → List Float → Float → Float → Answer
@@ -157,7 +104,7 @@ inverse_of frame b en x y = finish (formula_of frame b en x y)
 -- 26 stands last, and is about the place that would be handed out
 unfoldable pub inverse_in : Frame → Projection → Float → Float → Answer
 unfolding inverse_of
-inverse_in frame p x y = ensure_inside p.area (inverse_of frame p.built p.en x y)
+inverse_in frame p x y = and_then p.built (λ b. ensure_inside p.area (inverse_of frame b p.en x y))
 
 -- the first inverse, which is 01's: a click in the frame is answered
 abbrev pub formula : Projection → Float → Float → Answer
@@ -168,20 +115,25 @@ inverse = inverse_in frame.Held
 
 -- ---- the second inverse, which refuses a click in the frame by 30: document 02, Q-6
 
--- L, S and E have one. A projection that was refused does not say its kind, and answers by its own number here too.
-unfoldable pub has_second_inverse : Built → Bool
-has_second_inverse (Lambert p) = true
-has_second_inverse (Albers p) = false
-has_second_inverse (Equal p) = true
-has_second_inverse (Cassini p) = false
-has_second_inverse (Polyconic p) = false
-has_second_inverse (Guam p) = false
-has_second_inverse (Refused n) = true
+-- L, S and E have one
+unfoldable pub second_of : Built → Bool
+second_of (Lambert p) = true
+second_of (Albers p) = false
+second_of (Equal p) = true
+second_of (Cassini p) = false
+second_of (Polyconic p) = false
+second_of (Guam p) = false
+
+-- A projection that was refused does not say its kind, and answers by its own number here too.
+unfoldable pub has_second_inverse : Result Built Refusal → Bool
+unfolding second_of
+has_second_inverse (Ok b) = second_of b
+has_second_inverse (Err r) = true
 
 -- that another kind has none is no refusal, and has no number
-unfoldable pub inverse_on_map : Projection → Float → Float → SecondInverse
+unfoldable pub inverse_on_map : Projection → Float → Float → Option Answer
 unfolding has_second_inverse inverse_in
-inverse_on_map p x y = cond (has_second_inverse p.built) (Gives (inverse_in frame.Refused p x y)) Missing
+inverse_on_map p x y = cond (has_second_inverse p.built) (Some (inverse_in frame.Refused p x y)) None
 
 -- ---- one point, as a line of a sheet or of a column asks for it
 
@@ -195,13 +147,14 @@ abbrev pub answer : Way → Projection → Float → Float → Answer
 answer = answer_in frame.Held
 
 -- no projection, and why
-unfoldable pub refused : ℕ → Projection
-refused n = plain (Refused n)
+unfoldable pub refused : Refusal → Projection
+unfolding plain
+refused r = plain (Err r)
 
 -- a projection on the ellipsoid of a and f: the ellipsoid's checks, then the projection's
-abbrev pub on_ellipsoid : Kind → Settings → BuiltEllipsoid → Projection
-on_ellipsoid kind s (ellipsoid.Built e) = new kind e s
-on_ellipsoid kind s (ellipsoid.Refused n) = refused n
+abbrev pub on_ellipsoid : Kind → Settings → Result Ellipsoid Refusal → Projection
+on_ellipsoid kind s (Ok e) = new kind e s
+on_ellipsoid kind s (Err r) = refused r
 
 unfoldable pub build : Kind → Float → Float → Settings → Projection
 unfolding new refused
@@ -214,10 +167,15 @@ project way kind a f s u v = answer way (build kind a f s) u v
 
 -- ---- with an area of use
 
--- a projection with an area in place of the one that it has, if any: 25 after all checks of the construction
+-- where the checks have passed, a projection with an area in place of the one that it has, if any; else none
+abbrev pub checked_area : Projection → Area → Check → Projection
+checked_area p area (Ok x) = record { built = p.built; en = p.en; area = Some area }
+checked_area p area (Err r) = refused r
+
+-- 25 after all checks of the construction
 unfoldable pub with_area : Projection → Area → Projection
-unfolding built_number refused
-with_area p area = guard (or_else (built_number p) (validate_area area)) refused (record { built = p.built; en = p.en; area = Inside area })
+unfolding refused
+with_area p area = checked_area p area (result_and p.built (validate_area area))
 
 unfoldable pub build_in_area : Kind → Float → Float → Settings → Area → Projection
 unfolding build with_area

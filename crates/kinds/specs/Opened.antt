@@ -10,7 +10,6 @@ use Rattle.kinds.specs.Kinds as kinds
 
 unfoldable pub opened : Unit {0}
 unfolding letters_below.opened equal_earth_below.opened albers_below.opened lambert_below.opened cassini_below.opened polyconic_below.opened
-    guam_below.opened kinds.lambert kinds.albers kinds.equal_earth kinds.cassini kinds.polyconic kinds.guam kinds.made kinds.new kinds.number_of
-    kinds.built_number kinds.is_refused kinds.forward_of kinds.forward kinds.formula_of kinds.formula_in kinds.inverse_of kinds.inverse_in
-    kinds.has_second_inverse kinds.inverse_on_map kinds.answer_in kinds.refused kinds.build kinds.project kinds.with_area kinds.build_in_area
+    guam_below.opened kinds.plain kinds.made kinds.new kinds.forward_of kinds.forward kinds.formula_of kinds.formula_in kinds.inverse_of kinds.inverse_in
+    kinds.second_of kinds.has_second_inverse kinds.inverse_on_map kinds.answer_in kinds.refused kinds.build kinds.project kinds.with_area kinds.build_in_area
 opened = tt

@@ -2,7 +2,6 @@
 #![tactic(auto)]
 
 mod by_kind;
-mod choices;
 mod points;
 mod second;
 
@@ -13,21 +12,19 @@ ghost use Rattle.kinds.specs.Kinds.{new, forward, formula, inverse, formula_in, 
 
 use albers_equal_area::AlbersEqualArea;
 use american_polyconic::AmericanPolyconic;
-use by_kind::{forward_of, inverse_of, is_refused};
 use cassini_soldner::CassiniSoldner;
-use choices::{albers, cassini, equal_earth, guam, lambert, polyconic};
 use ellipsoid::Ellipsoid;
 use equal_earth::EqualEarth;
 use guam_projection::GuamProjection;
 use lambert_azimuthal_equal_area::LambertAzimuthalEqualArea;
-use letters::{Kind, Settings, used};
-pub use points::{answer, answer_in, build, build_in_area, built_number, project, refused};
+use letters::{Kind, used};
+pub use points::{answer, answer_in, build, build_in_area, project, refused};
 use projection::{
-    Answer, Area, AreaOfUse, Frame, ensure_inside, or_else, validate_area, validate_lon_lat,
-    validate_place,
+    Answer, Area, Frame, Settings, ensure_inside, validate_area, validate_lon_lat, validate_place,
 };
+use refusals::Refusal;
 
-// What a construction answers: a projection of one of the kinds, or a refusal number.
+// A projection of one of the kinds.
 #[derive(Clone, Copy)]
 pub enum Built {
     Lambert(LambertAzimuthalEqualArea),
@@ -36,75 +33,61 @@ pub enum Built {
     Cassini(CassiniSoldner),
     Polyconic(AmericanPolyconic),
     Guam(GuamProjection),
-    Refused(u8),
 }
 
-// The 13 meridian numbers stand beside the choice: an enum holds no array. So does the area of use, which every kind may have.
+// What a construction answers, and the area of use that every kind may have. The 13 meridian numbers stand beside the kinds, since a refused
+// polyconic or Guam projection has them too: `lenthuc_build` hands out all of it.
 #[derive(Clone, Copy)]
 pub struct Projection {
-    pub built: Built,
+    pub built: Result<Built, Refusal>,
     pub en: [f64; 13],
-    pub area: AreaOfUse,
+    pub area: Option<Area>,
 }
 
-// What the second inverse gives. Albers, Cassini-Soldner, polyconic and Guam have none.
-#[derive(Clone, Copy)]
-pub enum SecondInverse {
-    Gives(Answer),
-    Missing,
+// Of a kind without meridian numbers, and without an area of use.
+#[tactic(auto, unfolding(crate::specs::Kinds::plain))]
+fn plain(built: Result<Built, Refusal>) -> Projection
+    ensures { result ≡ plain built }
+{
+    Projection {
+        built,
+        en: [0.0; 13],
+        area: None,
+    }
 }
 
 impl Projection {
     // A projection of a kind on any ellipsoid, by the settings that the kind uses, without an area of use.
+    #[tactic(auto, unfolding(crate::specs::Kinds::new, crate::specs::Kinds::made))]
     pub fn new(kind: Kind, ellipsoid: Ellipsoid, settings: Settings) -> Projection
         ensures { result ≡ new kind ellipsoid settings }
     {
         let s = used(kind, settings);
-        let lon0 = s.lon0;
-        let lat0 = s.lat0;
-        let east = s.false_easting;
-        let north = s.false_northing;
-        let en = [0.0; 13];
-        let area = AreaOfUse::Anywhere;
         match kind {
-            Kind::L => {
-                let new = LambertAzimuthalEqualArea::new(ellipsoid, lon0, lat0, east, north);
-                let built = lambert(new);
-                Projection { built, en, area }
-            }
+            Kind::L => plain(LambertAzimuthalEqualArea::new(ellipsoid, s).map(Built::Lambert)),
             Kind::S => {
-                let new = LambertAzimuthalEqualArea::new_spherical(
-                    ellipsoid, lon0, lat0, east, north,
-                );
-                let built = lambert(new);
-                Projection { built, en, area }
+                plain(LambertAzimuthalEqualArea::new_spherical(ellipsoid, s).map(Built::Lambert))
             }
-            Kind::A => {
-                let new = AlbersEqualArea::new(ellipsoid, lon0, lat0, s.lat1, s.lat2, east, north);
-                let built = albers(new);
-                Projection { built, en, area }
-            }
-            Kind::E => {
-                let built = equal_earth(EqualEarth::new(ellipsoid, lon0, east, north));
-                Projection { built, en, area }
-            }
-            Kind::C => {
-                let built = cassini(CassiniSoldner::new(ellipsoid, lon0, lat0, east, north));
-                Projection { built, en, area }
-            }
+            Kind::A => plain(AlbersEqualArea::new(ellipsoid, s).map(Built::Albers)),
+            Kind::E => plain(EqualEarth::new(ellipsoid, s).map(Built::Equal)),
+            Kind::C => plain(CassiniSoldner::new(ellipsoid, s).map(Built::Cassini)),
             Kind::P => {
-                let new = AmericanPolyconic::new(ellipsoid, lon0, lat0, east, north);
+                let new = AmericanPolyconic::new(ellipsoid, s);
                 let en = new.en;
-                let built = new.built;
-                let built = polyconic(built);
-                Projection { built, en, area }
+                Projection {
+                    built: new.built.map(Built::Polyconic),
+                    en,
+                    area: None,
+                }
             }
             Kind::G => {
-                let new = GuamProjection::new(ellipsoid, lon0, lat0, east, north);
+                let new = GuamProjection::new(ellipsoid, s);
                 let en = new.en;
-                let built = new.built;
-                let built = guam(built);
-                Projection { built, en, area }
+                Projection {
+                    built: new.built.map(Built::Guam),
+                    en,
+                    area: None,
+                }
             }
         }
     }
@@ -113,15 +96,13 @@ impl Projection {
     pub fn forward(self, lon: f64, lat: f64) -> Answer
         ensures { result ≡ forward self lon lat }
     {
-        let built = self.built;
-        let en = self.en;
-        let area = self.area;
-        let outside = validate_place(area, lon, lat);
-        if is_refused(built) | (outside == 0) {
-            forward_of(built, en, lon, lat)
-        } else {
-            let place = validate_lon_lat(lon, lat);
-            Answer::Refused(or_else(place, outside))
+        let built = self.built?;
+        match validate_place(self.area, lon, lat) {
+            Ok(()) => built.forward(self.en, lon, lat),
+            Err(outside) => {
+                validate_lon_lat(lon, lat)?;
+                Err(outside)
+            }
         }
     }
 
@@ -136,26 +117,25 @@ impl Projection {
     pub(crate) fn inverse_in(self, frame: Frame, x: f64, y: f64) -> Answer
         ensures { (result ≡ inverse_in frame self x y) × OnTheMap (formula_in frame self x y) result × InArea self.area result }
     {
-        let built = self.built;
-        let en = self.en;
-        let area = self.area;
-        ensure_inside(area, inverse_of(frame, built, en, x, y))
+        let built = self.built?;
+        ensure_inside(self.area, built.inverse(frame, self.en, x, y))
     }
 
     // The projection with an area in place of the one that it has, if any. A refused one stays refused, by its own number.
+    #[tactic(auto, unfolding(crate::specs::Kinds::with_area))]
     pub fn with_area(self, area: Area) -> Projection
         ensures { result ≡ with_area self area }
     {
-        let number = built_number(self);
-        let edges = validate_area(area);
-        let fault = or_else(number, edges);
-        if fault == 0 {
-            let built = self.built;
-            let en = self.en;
-            let area = AreaOfUse::Inside(area);
-            Projection { built, en, area }
-        } else {
-            refused(fault)
+        match self.built.and(validate_area(area)) {
+            Ok(()) => {
+                let en = self.en;
+                Projection {
+                    built: self.built,
+                    en,
+                    area: Some(area),
+                }
+            }
+            Err(refusal) => refused(refusal),
         }
     }
 }

@@ -1,55 +1,39 @@
 // One point, as a line of a sheet asks for it.
 ghost use Rattle.std.specs.Prelude.{◌≡◌};
-ghost use Rattle.kinds.specs.Kinds.{refused, build, build_in_area, built_number, answer, answer_in, project};
+ghost use Rattle.kinds.specs.Kinds.{refused, build, build_in_area, answer, answer_in, project};
 ghost use Rattle.kinds.specs.OnTheMap.{PointOnTheMap, PointOnTheMapIn};
 
-use crate::{Built, Projection};
-use ellipsoid::{BuiltEllipsoid, Ellipsoid};
-use letters::{Kind, Settings, Way};
-use projection::{Answer, Area, AreaOfUse, Frame};
+use crate::{Projection, plain};
+use ellipsoid::Ellipsoid;
+use letters::{Kind, Way};
+use projection::{Answer, Area, Frame, Settings};
+use refusals::Refusal;
 
-// A projection that was refused: it answers every point by the number n.
-pub fn refused(n: u8) -> Projection
-    ensures { result ≡ refused n }
+// A projection that was refused: it answers every point by that refusal.
+#[tactic(auto, unfolding(crate::specs::Kinds::refused))]
+pub fn refused(refusal: Refusal) -> Projection
+    ensures { result ≡ refused refusal }
 {
-    let built = Built::Refused(n);
-    let en = [0.0; 13];
-    let area = AreaOfUse::Anywhere;
-    Projection { built, en, area }
+    plain(Err(refusal))
 }
 
 // A projection of a kind on the ellipsoid of a and f: the ellipsoid's checks, then the projection's.
+#[tactic(auto, unfolding(crate::specs::Kinds::build))]
 pub fn build(kind: Kind, a: f64, f: f64, settings: Settings) -> Projection
     ensures { result ≡ build kind a f settings }
 {
-    let ellipsoid = Ellipsoid::from_a_f(a, f);
-    match ellipsoid {
-        BuiltEllipsoid::Built(e) => Projection::new(kind, e, settings),
-        BuiltEllipsoid::Refused(n) => refused(n),
+    match Ellipsoid::from_a_f(a, f) {
+        Ok(ellipsoid) => Projection::new(kind, ellipsoid, settings),
+        Err(refusal) => refused(refusal),
     }
 }
 
 // The same with an area of use: its check stands after all others.
+#[tactic(auto, unfolding(crate::specs::Kinds::build_in_area))]
 pub fn build_in_area(kind: Kind, a: f64, f: f64, settings: Settings, area: Area) -> Projection
     ensures { result ≡ build_in_area kind a f settings area }
 {
     build(kind, a, f, settings).with_area(area)
-}
-
-// 0 where the projection is built, or the number of its refusal.
-pub fn built_number(p: Projection) -> u8
-    ensures { result ≡ built_number p }
-{
-    let built = p.built;
-    match built {
-        Built::Lambert(_) => 0,
-        Built::Albers(_) => 0,
-        Built::Equal(_) => 0,
-        Built::Cassini(_) => 0,
-        Built::Polyconic(_) => 0,
-        Built::Guam(_) => 0,
-        Built::Refused(n) => n,
-    }
 }
 
 // Answers one point by a projection that was built before.
@@ -60,6 +44,7 @@ pub fn answer(way: Way, p: Projection, u: f64, v: f64) -> Answer
 }
 
 // The same; an inverse by what it does with a click in the frame. Whether the kind has a second inverse is not asked here.
+#[tactic(auto, unfolding(crate::specs::Kinds::answer_in))]
 pub fn answer_in(frame: Frame, way: Way, p: Projection, u: f64, v: f64) -> Answer
     ensures { (result ≡ answer_in frame way p u v) × PointOnTheMapIn frame way p u v result }
 {
@@ -70,6 +55,7 @@ pub fn answer_in(frame: Frame, way: Way, p: Projection, u: f64, v: f64) -> Answe
 }
 
 // Builds the projection and answers one point.
+#[tactic(auto, unfolding(crate::specs::Kinds::project))]
 pub fn project(way: Way, kind: Kind, a: f64, f: f64, settings: Settings, u: f64, v: f64) -> Answer
     ensures { (result ≡ project way kind a f settings u v) × PointOnTheMap way (build kind a f settings) u v result }
 {

@@ -1,3 +1,2 @@
 mod Marks
-pub mod NeverZero
 mod Places

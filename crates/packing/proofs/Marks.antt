@@ -11,40 +11,40 @@ use mir.Syntax.{w8}
 use lib.Dec.{ltb, T}
 use lib.Ieee.{Float, binary64, to_bits, of_bits, is_nan}
 use lib.Ieee.Bits.{to_bits-of_bits, nan_bits_is, nan_bits_above}
+use Rattle.std.specs.Prelude.{Ok, Err}
 use Rattle.float.specs.Operators.{f64}
+use Rattle.refusals.specs.Refusals.{number_of, number_of-byte, from_number-number_of}
+use Rattle.refusals.specs.declared.Refusal.{Refusal}
 use Rattle.lambert_azimuthal_equal_area.specs.declared.LambertAzimuthalEqualArea.{LambertAzimuthalEqualArea}
 use Rattle.albers_equal_area.specs.declared.AlbersEqualArea.{AlbersEqualArea}
 use Rattle.equal_earth.specs.declared.EqualEarth.{EqualEarth}
 use Rattle.cassini_soldner.specs.declared.CassiniSoldner.{CassiniSoldner}
 use Rattle.american_polyconic.specs.declared.AmericanPolyconic.{AmericanPolyconic}
 use Rattle.guam_projection.specs.declared.GuamProjection.{GuamProjection}
-use Rattle.kinds.specs.declared.Built.TheVariants.{Lambert, Albers, Equal, Cassini, Polyconic, Guam, Refused}
+use Rattle.kinds.specs.declared.Built.TheVariants.{Lambert, Albers, Equal, Cassini, Polyconic, Guam}
 use Rattle.packing.specs.Packing.{at, lambert_of, albers_of, equal_earth_of, cassini_of, polyconic_of, guam_of, refusal_of, marked, built_of}
 
-pub a_byte : (mark : ℕ) → (ltb 0 mark && ltb mark 256) ≡ true → Fits w8 mark
-a_byte mark h = record { fits = ltb-true mark 256 ((and-eq-true_iff (ltb 0 mark) (ltb mark 256)).0 h).1 }
-
-pub lambert_marked : (l : List Float) (p : LambertAzimuthalEqualArea) → at l 0 ≡ f64 332 → lambert_of l ≡ p → built_of l ≡ Lambert p
+pub lambert_marked : (l : List Float) (p : LambertAzimuthalEqualArea) → at l 0 ≡ f64 332 → lambert_of l ≡ p → built_of l ≡ Ok (Lambert p)
 unfolding built_of marked to_bits of_bits
 lambert_marked l p h e = rw (h, e) refl
 
-pub albers_marked : (l : List Float) (p : AlbersEqualArea) → at l 0 ≡ f64 321 → albers_of l ≡ p → built_of l ≡ Albers p
+pub albers_marked : (l : List Float) (p : AlbersEqualArea) → at l 0 ≡ f64 321 → albers_of l ≡ p → built_of l ≡ Ok (Albers p)
 unfolding built_of marked to_bits of_bits
 albers_marked l p h e = rw (h, e) refl
 
-pub equal_earth_marked : (l : List Float) (p : EqualEarth) → at l 0 ≡ f64 325 → equal_earth_of l ≡ p → built_of l ≡ Equal p
+pub equal_earth_marked : (l : List Float) (p : EqualEarth) → at l 0 ≡ f64 325 → equal_earth_of l ≡ p → built_of l ≡ Ok (Equal p)
 unfolding built_of marked to_bits of_bits
 equal_earth_marked l p h e = rw (h, e) refl
 
-pub cassini_marked : (l : List Float) (p : CassiniSoldner) → at l 0 ≡ f64 323 → cassini_of l ≡ p → built_of l ≡ Cassini p
+pub cassini_marked : (l : List Float) (p : CassiniSoldner) → at l 0 ≡ f64 323 → cassini_of l ≡ p → built_of l ≡ Ok (Cassini p)
 unfolding built_of marked to_bits of_bits
 cassini_marked l p h e = rw (h, e) refl
 
-pub polyconic_marked : (l : List Float) (p : AmericanPolyconic) → at l 0 ≡ f64 336 → polyconic_of l ≡ p → built_of l ≡ Polyconic p
+pub polyconic_marked : (l : List Float) (p : AmericanPolyconic) → at l 0 ≡ f64 336 → polyconic_of l ≡ p → built_of l ≡ Ok (Polyconic p)
 unfolding built_of marked to_bits of_bits
 polyconic_marked l p h e = rw (h, e) refl
 
-pub guam_marked : (l : List Float) (p : GuamProjection) → at l 0 ≡ f64 327 → guam_of l ≡ p → built_of l ≡ Guam p
+pub guam_marked : (l : List Float) (p : GuamProjection) → at l 0 ≡ f64 327 → guam_of l ≡ p → built_of l ≡ Ok (Guam p)
 unfolding built_of marked to_bits of_bits
 guam_marked l p h e = rw (h, e) refl
 
@@ -58,9 +58,8 @@ small_pattern n h = to_bits-of_bits binary64 n (omega arith) (subst (λ (b : Boo
         let l : n < 9223372036854775808 = omega arith in
         e ∙ rw (mod-eq_of_lt l) (le-ltb _ n (omega arith))
 
-pub refusal_marked : (l : List Float) (n : ℕ) → Fits w8 n → at l 0 ≡ f64 n → (n ≡ 0 → ⊥) → built_of l ≡ Refused n
+pub refusal_marked : (l : List Float) (r : Refusal) → at l 0 ≡ f64 (number_of r) → built_of l ≡ Err r
 unfolding built_of marked refusal_of
-refusal_marked l n f h z =
-    let s : n < 256 = f.fits in
-    let p : 0 < n = omega (arith, z) in
-    rw (h, small_pattern n s, ne_eqb n 332 (λ e. omega arith), ne_eqb n 321 (λ e. omega arith), ne_eqb n 325 (λ e. omega arith), ne_eqb n 323 (λ e. omega arith), ne_eqb n 336 (λ e. omega arith), ne_eqb n 327 (λ e. omega arith), lt-ltb 0 n p, lt-ltb n 256 s) refl
+refusal_marked l r h =
+    let s : number_of r < 256 = number_of-byte r in
+    rw (h, small_pattern (number_of r) s, ne_eqb (number_of r) 332 (λ e. omega arith), ne_eqb (number_of r) 321 (λ e. omega arith), ne_eqb (number_of r) 325 (λ e. omega arith), ne_eqb (number_of r) 323 (λ e. omega arith), ne_eqb (number_of r) 336 (λ e. omega arith), ne_eqb (number_of r) 327 (λ e. omega arith), lt-ltb (number_of r) 256 s, from_number-number_of r) refl

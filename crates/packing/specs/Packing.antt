@@ -1,12 +1,14 @@
 -- The projection that 36 numbers hold, whatever they are: a mark, the numbers of the kind, from place 18 on the 13 meridian numbers, and from place 31 on
 -- the area of use.
-use Rattle.std.specs.Prelude.{ℕ, zero, suc, ◌+◌, cond, ◌&&◌, List, [], ◌∷◌, eqb, ltb, get_or, Float}
+use Rattle.std.specs.Prelude.{ℕ, zero, suc, ◌+◌, cond, ◌&&◌, List, [], ◌∷◌, eqb, ltb, get_or, unwrap_or, Float, Option, Some, None, Result, Ok, Err}
 use Prim.Native.Char.{code}
 use Rattle.std.specs.Float.{nan, binary64}
 use Rattle.std.specs.Float.Ieee.{to_bits}
 use Rattle.float.specs.Operators.{◌≈◌}
 use Rattle.float.specs.Constants.{one, two}
-use Rattle.refusals.specs.Refusals.{LINE_FORM}
+use Rattle.refusals.specs.Refusals.{from_number}
+use Rattle.refusals.specs.declared.Refusal.{Refusal}
+use Rattle.refusals.specs.declared.Refusal.TheVariants.{LineForm}
 use Rattle.lambert_azimuthal_equal_area.specs.declared.Aspect.{Aspect}
 use Rattle.lambert_azimuthal_equal_area.specs.declared.Aspect.TheVariants.{Oblique, NorthPolar, SouthPolar}
 use Rattle.lambert_azimuthal_equal_area.specs.declared.LambertAzimuthalEqualArea.{LambertAzimuthalEqualArea}
@@ -15,10 +17,9 @@ use Rattle.equal_earth.specs.declared.EqualEarth.{EqualEarth}
 use Rattle.cassini_soldner.specs.declared.CassiniSoldner.{CassiniSoldner}
 use Rattle.american_polyconic.specs.declared.AmericanPolyconic.{AmericanPolyconic}
 use Rattle.guam_projection.specs.declared.GuamProjection.{GuamProjection}
-use Rattle.projection.specs.declared.AreaOfUse.{AreaOfUse}
-use Rattle.projection.specs.declared.AreaOfUse.TheVariants.{Anywhere, Inside}
+use Rattle.projection.specs.declared.Area.{Area}
 use Rattle.kinds.specs.declared.Built.{Built}
-use Rattle.kinds.specs.declared.Built.TheVariants.{Lambert, Albers, Equal, Cassini, Polyconic, Guam, Refused}
+use Rattle.kinds.specs.declared.Built.TheVariants.{Lambert, Albers, Equal, Cassini, Polyconic, Guam}
 use Rattle.kinds.specs.declared.Projection.{Projection}
 
 -- the number at a place
@@ -126,30 +127,30 @@ guam_of l =
 -- ---- the area of use
 
 -- from place i on: 1 where there is one, and its edges, which are not checked; any other number where there is none
-unfoldable pub area_from : List Float → ℕ → AreaOfUse
+unfoldable pub area_from : List Float → ℕ → Option Area
 area_from l i =
-    cond (at l i ≈ one) (Inside (record { west = at l (i + 1); east = at l (i + 2); south = at l (i + 3); north = at l (i + 4) })) Anywhere
+    cond (at l i ≈ one) (Some (record { west = at l (i + 1); east = at l (i + 2); south = at l (i + 3); north = at l (i + 4) })) None
 
 -- ---- the whole
 
 -- a mark below 256 is a refusal's number; of any other that names no kind, and of 0, there is no projection
-unfoldable pub refusal_of : ℕ → ℕ
-refusal_of mark = cond (ltb 0 mark && ltb mark 256) mark LINE_FORM
+unfoldable pub refusal_of : ℕ → Refusal
+refusal_of mark = cond (ltb mark 256) (unwrap_or (from_number mark) LineForm) LineForm
 
 -- the mark of a kind: 256 and its letter's code. Lambert's spherical form has the mark of L, and says so itself
 abbrev pub mark_of : ℕ → ℕ
 mark_of letter = 256 + letter
 
-unfoldable pub marked : ℕ → List Float → Built
+unfoldable pub marked : ℕ → List Float → Result Built Refusal
 unfolding lambert_of albers_of equal_earth_of cassini_of polyconic_of guam_of refusal_of
 marked mark l =
-    cond (eqb mark (mark_of (code "L"))) (Lambert (lambert_of l)) (cond (eqb mark (mark_of (code "A"))) (Albers (albers_of l))
-    (cond (eqb mark (mark_of (code "E"))) (Equal (equal_earth_of l)) (cond (eqb mark (mark_of (code "C"))) (Cassini (cassini_of l))
-    (cond (eqb mark (mark_of (code "P"))) (Polyconic (polyconic_of l)) (cond (eqb mark (mark_of (code "G"))) (Guam (guam_of l))
-    (Refused (refusal_of mark)))))))
+    cond (eqb mark (mark_of (code "L"))) (Ok (Lambert (lambert_of l))) (cond (eqb mark (mark_of (code "A"))) (Ok (Albers (albers_of l)))
+    (cond (eqb mark (mark_of (code "E"))) (Ok (Equal (equal_earth_of l))) (cond (eqb mark (mark_of (code "C"))) (Ok (Cassini (cassini_of l)))
+    (cond (eqb mark (mark_of (code "P"))) (Ok (Polyconic (polyconic_of l))) (cond (eqb mark (mark_of (code "G"))) (Ok (Guam (guam_of l)))
+    (Err (refusal_of mark)))))))
 
 -- the mark is the pattern of the number at place 0
-unfoldable pub built_of : List Float → Built
+unfoldable pub built_of : List Float → Result Built Refusal
 unfolding marked
 built_of l = marked (to_bits binary64 (at l 0)) l
 

@@ -1,7 +1,7 @@
 // The mark and the numbers of a kind, and the numbers of an area of use, in the places where `unpacked` reads them.
-ghost use Rattle.std.specs.Prelude.{◌≡◌};
+ghost use Rattle.std.specs.Prelude.{◌≡◌, ◌++◌, ◌-◌, ◌≤◌, replicate, Err};
 ghost use Rattle.float.specs.Operators.{f64};
-ghost use Rattle.kinds.specs.declared.Built.TheVariants.{Refused};
+ghost use Rattle.float.specs.Constants.{+0};
 ghost use Rattle.packing.specs.Packing.{at, aspect_of, area_from, lambert_of, albers_of, equal_earth_of, cassini_of, polyconic_of, guam_of, built_of};
 
 use albers_equal_area::AlbersEqualArea;
@@ -11,7 +11,8 @@ use equal_earth::EqualEarth;
 use float::{f64_of, pick};
 use guam_projection::GuamProjection;
 use lambert_azimuthal_equal_area::{Aspect, LambertAzimuthalEqualArea};
-use projection::AreaOfUse;
+use projection::Area;
+use refusals::Refusal;
 
 // The marks of the kinds, as the f64 of their pattern.
 const LAMBERT: f64 = f64::from_bits(332);
@@ -25,6 +26,16 @@ const CASSINI: f64 = f64::from_bits(323);
 const POLYCONIC: f64 = f64::from_bits(336);
 
 const GUAM: f64 = f64::from_bits(327);
+
+// The numbers of a kind, and zeros in the places that it does not use.
+fn with_zeros<const N: usize>(numbers: [f64; N]) -> [f64; 18]
+    requires { N ≤ 18 }
+    ensures { result ≡ numbers ++ replicate (18 - N) +0 }
+{
+    let mut all = [0.0; 18];
+    all[..N].copy_from_slice(&numbers);
+    all
+}
 
 fn aspect_number(aspect: Aspect) -> f64
     ensures { aspect_of result ≡ aspect }
@@ -42,7 +53,7 @@ pub(crate) fn lambert(p: LambertAzimuthalEqualArea) -> [f64; 18]
     let spherical = pick(p.spherical, 1.0, 0.0);
     let aspect = p.aspect;
     let aspect = aspect_number(aspect);
-    [
+    with_zeros([
         LAMBERT,
         p.a,
         p.e2,
@@ -60,14 +71,13 @@ pub(crate) fn lambert(p: LambertAzimuthalEqualArea) -> [f64; 18]
         p.false_easting,
         p.false_northing,
         aspect,
-        0.0,
-    ]
+    ])
 }
 
 pub(crate) fn albers(p: AlbersEqualArea) -> [f64; 18]
     ensures { (at result 0 ≡ f64 321) × (albers_of result ≡ p) }
 {
-    [
+    with_zeros([
         ALBERS,
         p.a,
         p.e,
@@ -78,21 +88,13 @@ pub(crate) fn albers(p: AlbersEqualArea) -> [f64; 18]
         p.rho0,
         p.false_easting,
         p.false_northing,
-        0.0,
-        0.0,
-        0.0,
-        0.0,
-        0.0,
-        0.0,
-        0.0,
-        0.0,
-    ]
+    ])
 }
 
 pub(crate) fn equal_earth(p: EqualEarth) -> [f64; 18]
     ensures { (at result 0 ≡ f64 325) × (equal_earth_of result ≡ p) }
 {
-    [
+    with_zeros([
         EQUAL_EARTH,
         p.a,
         p.e2,
@@ -101,17 +103,7 @@ pub(crate) fn equal_earth(p: EqualEarth) -> [f64; 18]
         p.false_northing,
         p.q_p,
         p.rqda,
-        0.0,
-        0.0,
-        0.0,
-        0.0,
-        0.0,
-        0.0,
-        0.0,
-        0.0,
-        0.0,
-        0.0,
-    ]
+    ])
 }
 
 pub(crate) fn cassini(p: CassiniSoldner) -> [f64; 18]
@@ -142,7 +134,7 @@ pub(crate) fn cassini(p: CassiniSoldner) -> [f64; 18]
 pub(crate) fn polyconic(p: AmericanPolyconic) -> [f64; 18]
     ensures { (at result 0 ≡ f64 336) × (polyconic_of result ≡ p) }
 {
-    [
+    with_zeros([
         POLYCONIC,
         p.a,
         p.e2,
@@ -151,23 +143,13 @@ pub(crate) fn polyconic(p: AmericanPolyconic) -> [f64; 18]
         p.false_easting,
         p.false_northing,
         p.ml0,
-        0.0,
-        0.0,
-        0.0,
-        0.0,
-        0.0,
-        0.0,
-        0.0,
-        0.0,
-        0.0,
-        0.0,
-    ]
+    ])
 }
 
 pub(crate) fn guam(p: GuamProjection) -> [f64; 18]
     ensures { (at result 0 ≡ f64 327) × (guam_of result ≡ p) }
 {
-    [
+    with_zeros([
         GUAM,
         p.a,
         p.e2,
@@ -177,48 +159,21 @@ pub(crate) fn guam(p: GuamProjection) -> [f64; 18]
         p.false_easting,
         p.false_northing,
         p.m1,
-        0.0,
-        0.0,
-        0.0,
-        0.0,
-        0.0,
-        0.0,
-        0.0,
-        0.0,
-        0.0,
-    ]
+    ])
 }
 
-pub(crate) fn refusal(n: u8) -> [f64; 18]
-    ensures { (n ≡ 0 → ⊥) → built_of result ≡ Refused n }
+// A refusal's number is its mark.
+pub(crate) fn refusal(refusal: Refusal) -> [f64; 18]
+    ensures { built_of result ≡ Err refusal }
 {
-    [
-        f64_of(n as u64),
-        0.0,
-        0.0,
-        0.0,
-        0.0,
-        0.0,
-        0.0,
-        0.0,
-        0.0,
-        0.0,
-        0.0,
-        0.0,
-        0.0,
-        0.0,
-        0.0,
-        0.0,
-        0.0,
-        0.0,
-    ]
+    with_zeros([f64_of(refusal.number() as u64)])
 }
 
-pub(crate) fn area(area: AreaOfUse) -> [f64; 5]
+pub(crate) fn area(area: Option<Area>) -> [f64; 5]
     ensures { area_from result 0 ≡ area }
 {
     match area {
-        AreaOfUse::Anywhere => [0.0, 0.0, 0.0, 0.0, 0.0],
-        AreaOfUse::Inside(a) => [1.0, a.west, a.east, a.south, a.north],
+        None => [0.0; 5],
+        Some(a) => [1.0, a.west, a.east, a.south, a.north],
     }
 }

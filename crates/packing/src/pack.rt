@@ -1,23 +1,22 @@
 // A projection's 36 numbers.
 ghost use Rattle.std.specs.Prelude.{◌≡◌};
 ghost use Rattle.packing.specs.Packing.{from, built_of, area_from, unpacked};
-ghost use Rattle.projection.proofs.NeverZero.{NeverZero};
-ghost use Rattle.kinds.specs.declared.Built.TheVariants.{Refused};
 
 use crate::own;
 use kinds::{Built, Projection};
+use refusals::Refusal;
 
-fn own_numbers(built: Built) -> [f64; 18]
-    ensures { NeverZero Refused built → built_of result ≡ built }
+fn own_numbers(built: Result<Built, Refusal>) -> [f64; 18]
+    ensures { built_of result ≡ built }
 {
     match built {
-        Built::Lambert(p) => own::lambert(p),
-        Built::Albers(p) => own::albers(p),
-        Built::Equal(p) => own::equal_earth(p),
-        Built::Cassini(p) => own::cassini(p),
-        Built::Polyconic(p) => own::polyconic(p),
-        Built::Guam(p) => own::guam(p),
-        Built::Refused(n) => own::refusal(n),
+        Ok(Built::Lambert(p)) => own::lambert(p),
+        Ok(Built::Albers(p)) => own::albers(p),
+        Ok(Built::Equal(p)) => own::equal_earth(p),
+        Ok(Built::Cassini(p)) => own::cassini(p),
+        Ok(Built::Polyconic(p)) => own::polyconic(p),
+        Ok(Built::Guam(p)) => own::guam(p),
+        Err(refusal) => own::refusal(refusal),
     }
 }
 
@@ -33,12 +32,9 @@ fn joined(own: [f64; 18], en: [f64; 13], area: [f64; 5]) -> [f64; 36]
     ]
 }
 
-// Nothing is lost, of a refusal neither: its number is never 0.
+// Nothing is lost, of a refusal neither.
 pub fn packed(p: Projection) -> [f64; 36]
-    ensures { NeverZero Refused p.built → unpacked result ≡ p }
+    ensures { unpacked result ≡ p }
 {
-    let built = p.built;
-    let en = p.en;
-    let area = p.area;
-    joined(own_numbers(built), en, own::area(area))
+    joined(own_numbers(p.built), p.en, own::area(p.area))
 }

@@ -10,9 +10,10 @@ use float::bits_of;
 use guam_projection::GuamProjection;
 use kinds::{Built, Projection};
 use lambert_azimuthal_equal_area::{Aspect, LambertAzimuthalEqualArea};
-use projection::{Area, AreaOfUse};
-use refusals::LINE_FORM;
+use projection::Area;
+use refusals::Refusal;
 
+#[tactic(auto, unfolding(crate::specs::Packing::aspect_of))]
 fn aspect_of(x: f64) -> Aspect
     ensures { result ≡ aspect_of x }
 {
@@ -25,6 +26,7 @@ fn aspect_of(x: f64) -> Aspect
     }
 }
 
+#[tactic(auto, unfolding(crate::specs::Packing::lambert_of))]
 fn lambert_of(n: &[f64; 36]) -> LambertAzimuthalEqualArea
     ensures { result ≡ lambert_of n.now }
 {
@@ -48,6 +50,7 @@ fn lambert_of(n: &[f64; 36]) -> LambertAzimuthalEqualArea
     }
 }
 
+#[tactic(auto, unfolding(crate::specs::Packing::albers_of))]
 fn albers_of(n: &[f64; 36]) -> AlbersEqualArea
     ensures { result ≡ albers_of n.now }
 {
@@ -64,6 +67,7 @@ fn albers_of(n: &[f64; 36]) -> AlbersEqualArea
     }
 }
 
+#[tactic(auto, unfolding(crate::specs::Packing::equal_earth_of))]
 fn equal_earth_of(n: &[f64; 36]) -> EqualEarth
     ensures { result ≡ equal_earth_of n.now }
 {
@@ -78,6 +82,7 @@ fn equal_earth_of(n: &[f64; 36]) -> EqualEarth
     }
 }
 
+#[tactic(auto, unfolding(crate::specs::Packing::cassini_of))]
 fn cassini_of(n: &[f64; 36]) -> CassiniSoldner
     ensures { result ≡ cassini_of n.now }
 {
@@ -102,6 +107,7 @@ fn cassini_of(n: &[f64; 36]) -> CassiniSoldner
     }
 }
 
+#[tactic(auto, unfolding(crate::specs::Packing::polyconic_of))]
 fn polyconic_of(n: &[f64; 36]) -> AmericanPolyconic
     ensures { result ≡ polyconic_of n.now }
 {
@@ -116,6 +122,7 @@ fn polyconic_of(n: &[f64; 36]) -> AmericanPolyconic
     }
 }
 
+#[tactic(auto, unfolding(crate::specs::Packing::guam_of))]
 fn guam_of(n: &[f64; 36]) -> GuamProjection
     ensures { result ≡ guam_of n.now }
 {
@@ -131,56 +138,62 @@ fn guam_of(n: &[f64; 36]) -> GuamProjection
     }
 }
 
-// The number of the refusal that a mark of no kind stands for.
-fn refusal_of(mark: u64) -> u8
+// The refusal that a mark of no kind stands for.
+#[tactic(auto, unfolding(crate::specs::Packing::refusal_of))]
+fn refusal_of(mark: u64) -> Refusal
     ensures { result ≡ refusal_of mark }
 {
-    if (0 < mark) & (mark < 256) {
-        mark as u8
+    if mark < 256 {
+        Refusal::from_number(mark as u8).unwrap_or(Refusal::LineForm)
     } else {
-        LINE_FORM
+        Refusal::LineForm
     }
 }
 
 // A kind's mark is 256 and its letter's code, in the order L, A, E, C, P, G. A refusal's is its number, which is less.
-fn built_of(n: &[f64; 36]) -> Built
+#[tactic(auto, unfolding(crate::specs::Packing::built_of, crate::specs::Packing::marked))]
+fn built_of(n: &[f64; 36]) -> Result<Built, Refusal>
     ensures { result ≡ built_of n.now }
 {
     let mark = bits_of(n[0]);
     match mark {
-        332 => Built::Lambert(lambert_of(n)),
-        321 => Built::Albers(albers_of(n)),
-        325 => Built::Equal(equal_earth_of(n)),
-        323 => Built::Cassini(cassini_of(n)),
-        336 => Built::Polyconic(polyconic_of(n)),
-        327 => Built::Guam(guam_of(n)),
-        _ => Built::Refused(refusal_of(mark)),
+        332 => Ok(Built::Lambert(lambert_of(n))),
+        321 => Ok(Built::Albers(albers_of(n))),
+        325 => Ok(Built::Equal(equal_earth_of(n))),
+        323 => Ok(Built::Cassini(cassini_of(n))),
+        336 => Ok(Built::Polyconic(polyconic_of(n))),
+        327 => Ok(Built::Guam(guam_of(n))),
+        _ => Err(refusal_of(mark)),
     }
 }
 
 // The edges are not checked: they are only ever compared.
-fn area_of(n: &[f64; 36]) -> AreaOfUse
+#[tactic(auto, unfolding(crate::specs::Packing::area_from))]
+fn area_of(n: &[f64; 36]) -> Option<Area>
     ensures { result ≡ area_from n.now 31 }
 {
     if n[31] == 1.0 {
-        AreaOfUse::Inside(Area {
+        Some(Area {
             west: n[32],
             east: n[33],
             south: n[34],
             north: n[35],
         })
     } else {
-        AreaOfUse::Anywhere
+        None
     }
 }
 
+#[tactic(auto, unfolding(crate::specs::Packing::unpacked, crate::specs::Packing::from))]
 pub fn unpacked(n: &[f64; 36]) -> Projection
     ensures { result ≡ unpacked n.now }
 {
-    let built = built_of(n);
     let en = [
         n[18], n[19], n[20], n[21], n[22], n[23], n[24], n[25], n[26], n[27], n[28], n[29], n[30],
     ];
-    let area = area_of(n);
-    Projection { built, en, area }
+    Projection {
+        built: built_of(n),
+        en,
+        area: area_of(n),
+    }
 }

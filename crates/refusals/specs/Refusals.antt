@@ -2,8 +2,8 @@
 use native.Mathlib.Omega.{arith}
 use mathlib.Core.Path.{sym, ap, ◌∙◌}
 use mathlib.Core.Bool.{false≢true, Bool-set}
-use Rattle.std.specs.Prelude.{ℕ, Bool, true, false, cond, ◌==◌, ◌≡◌, refl, List, [], ◌∷◌, get_or, Option, Some, None, Result, Ok, Err}
-use Rattle.refusals.specs.Unlisted.{is_unlisted}
+use Rattle.std.specs.Prelude.{ℕ, ◌<◌, Bool, true, false, cond, ◌==◌, ◌≡◌, refl, List, [], ◌∷◌, get_or, Option, Some, None, Result, Ok, Err}
+use Rattle.refusals.specs.Unlisted.{is_unlisted, unlisted-byte}
 use Rattle.refusals.specs.declared.unlisted.Unlisted.{Unlisted}
 use Rattle.refusals.specs.declared.Refusal.{Refusal}
 use Rattle.refusals.specs.declared.Refusal.TheVariants as refusal
@@ -107,6 +107,11 @@ from_number-number_of r = refl
 -- refusals with different numbers are different
 pub other_number : (r s : Refusal) → (number_of r ≡ number_of s → ⊥) → r ≡ s → ⊥
 other_number r s h e = h (ap number_of e)
+
+-- a number is a byte
+pub number_of-byte : (r : Refusal) → number_of r < 256
+number_of-byte (refusal.Unlisted handed_in) = unlisted-byte handed_in.number handed_in.unlisted
+number_of-byte r = omega arith
 
 -- no number is 0, which stands for an answer
 pub number_of-positive : (r : Refusal) → number_of r ≡ 0 → ⊥

@@ -1,8 +1,0 @@
--- Each field stands at its place.
-use mathlib.Core.Path.{refl}
-use Rattle.packing.specs.Packing.{albers_of}
-use Rattle.packing.proofs.own.albers.Goals as goal
-
-pub returns : goal.returns
-unfolding albers_of
-returns c = (refl, refl)
