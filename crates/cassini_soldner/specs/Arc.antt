@@ -20,9 +20,9 @@ arc_coefficients a e2 =
     }
 
 -- M (Snyder 3-21): the arc from the equator to φ
-unfoldable pub meridional_arc : Float → Float → Float → Float → Float → Float
-meridional_arc phi coeff0 coeff2 coeff4 coeff6 =
-    coeff0 ⊗ phi ⊖ coeff2 ⊗ sine (two ⊗ phi) ⊕ coeff4 ⊗ sine (four ⊗ phi) ⊖ coeff6 ⊗ sine (c6 ⊗ phi)
+unfoldable pub meridional_arc : ArcCoefficients → Float → Float
+meridional_arc arc phi =
+    arc.coeff0 ⊗ phi ⊖ arc.coeff2 ⊗ sine (two ⊗ phi) ⊕ arc.coeff4 ⊗ sine (four ⊗ phi) ⊖ arc.coeff6 ⊗ sine (c6 ⊗ phi)
 
 -- the coefficients of Snyder 3-26, by e₁
 unfoldable pub footpoint_coefficients : Float → FootpointCoefficients
@@ -38,6 +38,6 @@ footpoint_coefficients e1 =
     }
 
 -- φ₁ (Snyder 3-26): the latitude whose rectifying latitude is μ
-unfoldable pub footpoint_latitude : Float → Float → Float → Float → Float → Float
-footpoint_latitude mu coeff2 coeff4 coeff6 coeff8 =
-    mu ⊕ coeff2 ⊗ sine (two ⊗ mu) ⊕ coeff4 ⊗ sine (four ⊗ mu) ⊕ coeff6 ⊗ sine (c6 ⊗ mu) ⊕ coeff8 ⊗ sine (c8 ⊗ mu)
+unfoldable pub footpoint_latitude : FootpointCoefficients → Float → Float
+footpoint_latitude back mu =
+    mu ⊕ back.coeff2 ⊗ sine (two ⊗ mu) ⊕ back.coeff4 ⊗ sine (four ⊗ mu) ⊕ back.coeff6 ⊗ sine (c6 ⊗ mu) ⊕ back.coeff8 ⊗ sine (c8 ⊗ mu)

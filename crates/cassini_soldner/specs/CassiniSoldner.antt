@@ -1,5 +1,6 @@
 -- Cassini-Soldner: Snyder chapter 13, IOGP 7-2 method 9806, in the source's order of operations.
-use Rattle.std.specs.Prelude.{cond, Float}
+use Rattle.std.specs.Prelude.{cond, Float, Result, Ok}
+use Rattle.std.specs.Result.{result_and}
 use Rattle.std.specs.Float.Ieee.{neg}
 use Rattle.float.specs.Operators.{◌⊕◌, ◌⊖◌, ◌⊗◌, ◌⊘◌, ◌≺◌}
 use Rattle.float.specs.Constants.{+0, one, FRAC_PI_2}
@@ -10,49 +11,39 @@ use Rattle.fixed.specs.Powers.{powf_3_2}
 use Rattle.ellipsoid.specs.Ellipsoid.{e2, ep2}
 use Rattle.ellipsoid.specs.declared.Ellipsoid.{Ellipsoid}
 use Rattle.meridian.specs.Meridian.{third_flattening}
-use Rattle.projection.specs.Checks.{guard, validate_settings, validate_projected}
+use Rattle.refusals.specs.declared.Refusal.{Refusal}
+use Rattle.projection.specs.Answer.{Answer}
+use Rattle.projection.specs.Checks.{validate_settings, validate_projected}
 use Rattle.projection.specs.Starts.{enter, entered}
 use Rattle.projection.specs.Ends.{ensure_finite_xy, finish}
-use Rattle.projection.specs.declared.Answer.{Answer}
-use Rattle.projection.specs.declared.Answer.TheVariants.{Pair, Refused}
+use Rattle.projection.specs.declared.Settings.{Settings}
 use Rattle.cassini_soldner.specs.Constants.{POLE_EPSILON}
 use Rattle.cassini_soldner.specs.Arc.{arc_coefficients, meridional_arc, footpoint_coefficients, footpoint_latitude}
 use Rattle.cassini_soldner.specs.Series.{easting_series, northing_series, longitude_series, latitude_series}
 use Rattle.cassini_soldner.specs.declared.CassiniSoldner.{CassiniSoldner}
-use Rattle.cassini_soldner.specs.declared.BuiltCassiniSoldner.{BuiltCassiniSoldner}
-use Rattle.cassini_soldner.specs.declared.BuiltCassiniSoldner.TheVariants as cassini
 
 -- M₀ is the arc to lat0 (Snyder 3-21). What μ divides by (7-19) is the arc's first coefficient; e₁ (3-24) is the third flattening.
-unfoldable pub derived : Ellipsoid → Float → Float → Float → Float → CassiniSoldner
-derived ellipsoid lon0 lat0 false_easting false_northing =
+unfoldable pub derived : Ellipsoid → Settings → CassiniSoldner
+derived ellipsoid settings =
     let a = ellipsoid.a in
     let arc = arc_coefficients a (e2 ellipsoid) in
-    let back = footpoint_coefficients (third_flattening (e2 ellipsoid)) in
     record {
       a = a;
       e2 = e2 ellipsoid;
       ep2 = ep2 ellipsoid;
       a_one_minus_e2 = a ⊗ (one ⊖ e2 ellipsoid);
-      lon0 = lon0;
-      false_easting = false_easting;
-      false_northing = false_northing;
-      m0 = meridional_arc lat0 arc.coeff0 arc.coeff2 arc.coeff4 arc.coeff6;
-      meridional_coeff0 = arc.coeff0;
-      meridional_coeff2 = arc.coeff2;
-      meridional_coeff4 = arc.coeff4;
-      meridional_coeff6 = arc.coeff6;
+      lon0 = settings.lon0;
+      false_easting = settings.false_easting;
+      false_northing = settings.false_northing;
+      m0 = meridional_arc arc settings.lat0;
+      arc = arc;
       mu_denom = arc.coeff0;
-      e1_coeff2 = back.coeff2;
-      e1_coeff4 = back.coeff4;
-      e1_coeff6 = back.coeff6;
-      e1_coeff8 = back.coeff8;
+      back = footpoint_coefficients (third_flattening (e2 ellipsoid));
     }
 
 -- 6 to 10, or what is derived
-unfoldable pub new : Ellipsoid → Float → Float → Float → Float → BuiltCassiniSoldner
-new ellipsoid lon0 lat0 false_easting false_northing =
-    guard (validate_settings lon0 lat0 +0 +0 false_easting false_northing) cassini.Refused
-    (cassini.Built (derived ellipsoid lon0 lat0 false_easting false_northing))
+unfoldable pub new : Ellipsoid → Settings → Result CassiniSoldner Refusal
+new ellipsoid settings = result_and (validate_settings settings) (Ok (derived ellipsoid settings))
 
 -- Snyder 13-7 and 13-8, with N (4-20), T (8-13), C (8-14), A (8-15)
 unfoldable pub projected : CassiniSoldner → Float → Float → Answer
@@ -61,7 +52,7 @@ projected p d_lon lat =
     let t = tangent lat ⊗ tangent lat in
     let c = p.ep2 ⊗ cosine lat ⊗ cosine lat in
     let a_coeff = d_lon ⊗ cosine lat in
-    let m = meridional_arc lat p.meridional_coeff0 p.meridional_coeff2 p.meridional_coeff4 p.meridional_coeff6 in
+    let m = meridional_arc p.arc lat in
     ensure_finite_xy (p.false_easting ⊕ n_val ⊗ easting_series a_coeff t c)
     (p.false_northing ⊕ m ⊖ p.m0 ⊕ n_val ⊗ tangent lat ⊗ northing_series a_coeff t c)
 
@@ -76,21 +67,21 @@ place p x lat1 =
     let r1 = p.a_one_minus_e2 ⊘ powf_3_2 w1 in
     let t1 = tangent lat1 ⊗ tangent lat1 in
     let d = (x ⊖ p.false_easting) ⊘ n1 in
-    Pair (p.lon0 ⊕ longitude_series d t1 ⊘ cosine lat1) (lat1 ⊖ n1 ⊗ tangent lat1 ⊘ r1 ⊗ latitude_series d t1)
+    Ok (p.lon0 ⊕ longitude_series d t1 ⊘ cosine lat1, lat1 ⊖ n1 ⊗ tangent lat1 ⊘ r1 ⊗ latitude_series d t1)
 
 -- The source's own rule, not Snyder's: where the footpoint is a pole, the place is that pole, whatever x is.
 unfoldable pub from_footpoint : CassiniSoldner → Float → Float → Answer
 from_footpoint p x lat1 =
-    cond (abs (cosine lat1) ≺ POLE_EPSILON) (Pair p.lon0 (cond (+0 ≺ lat1) FRAC_PI_2 (neg FRAC_PI_2))) (place p x lat1)
+    cond (abs (cosine lat1) ≺ POLE_EPSILON) (Ok (p.lon0, cond (+0 ≺ lat1) FRAC_PI_2 (neg FRAC_PI_2))) (place p x lat1)
 
 -- φ₁ of μ₁ = M₁ / μ's denominator (7-19), M₁ = M₀ + y (13-12)
 unfoldable pub footpoint : CassiniSoldner → Float → Float
 footpoint p y =
-    footpoint_latitude ((p.m0 ⊕ y ⊖ p.false_northing) ⊘ p.mu_denom) p.e1_coeff2 p.e1_coeff4 p.e1_coeff6 p.e1_coeff8
+    footpoint_latitude p.back ((p.m0 ⊕ y ⊖ p.false_northing) ⊘ p.mu_denom)
 
 -- 20, or the place with 01's "formula's longitude"
 unfoldable pub formula : CassiniSoldner → Float → Float → Answer
-formula p x y = guard (validate_projected x y) Refused (from_footpoint p x (footpoint p y))
+formula p x y = result_and (validate_projected x y) (from_footpoint p x (footpoint p y))
 
 unfoldable pub inverse : CassiniSoldner → Float → Float → Answer
 inverse p x y = finish (formula p x y)

@@ -8,13 +8,14 @@ ghost use Rattle.cassini_soldner.specs.CassiniSoldner.{new, derived, forward, pr
 mod arc;
 mod series;
 
-use arc::{arc_coefficients, footpoint_coefficients, footpoint_latitude, meridional_arc};
+pub use arc::{ArcCoefficients, FootpointCoefficients};
 use ellipsoid::Ellipsoid;
 use fixed::powf_3_2;
 use float::{FRAC_PI_2, abs, pick};
 use projection::{
-    Answer, Entrance, ensure_finite_xy, enter, finish, validate_projected, validate_settings,
+    Answer, Settings, ensure_finite_xy, enter, finish, validate_projected, validate_settings,
 };
+use refusals::Refusal;
 use root::root;
 use series::{easting_series, latitude_series, longitude_series, northing_series};
 use trigonometry::sin_cos;
@@ -29,96 +30,57 @@ pub struct CassiniSoldner {
     pub false_easting: f64,
     pub false_northing: f64,
     pub m0: f64,
-    pub meridional_coeff0: f64,
-    pub meridional_coeff2: f64,
-    pub meridional_coeff4: f64,
-    pub meridional_coeff6: f64,
+    pub arc: ArcCoefficients,
     pub mu_denom: f64,
-    pub e1_coeff2: f64,
-    pub e1_coeff4: f64,
-    pub e1_coeff6: f64,
-    pub e1_coeff8: f64,
-}
-
-#[derive(Clone, Copy)]
-pub enum BuiltCassiniSoldner {
-    Built(CassiniSoldner),
-    Refused(u8),
+    pub back: FootpointCoefficients,
 }
 
 impl CassiniSoldner {
     // The footpoint is a pole where the cosine of its latitude is below this in size.
     pub const POLE_EPSILON: f64 = 1e-12;
 
-    pub fn new(
-        ellipsoid: Ellipsoid,
-        lon0: f64,
-        lat0: f64,
-        false_easting: f64,
-        false_northing: f64,
-    ) -> BuiltCassiniSoldner
-        ensures { result ≡ new ellipsoid lon0 lat0 false_easting false_northing }
+    #[tactic(auto, unfolding(crate::specs::CassiniSoldner::new))]
+    pub fn new(ellipsoid: Ellipsoid, settings: Settings) -> Result<CassiniSoldner, Refusal>
+        ensures { result ≡ new ellipsoid settings }
     {
-        let fault = validate_settings(lon0, lat0, 0.0, 0.0, false_easting, false_northing);
-        if fault == 0 {
-            BuiltCassiniSoldner::Built(Self::derived(
-                ellipsoid,
-                lon0,
-                lat0,
-                false_easting,
-                false_northing,
-            ))
-        } else {
-            BuiltCassiniSoldner::Refused(fault)
-        }
+        validate_settings(settings)?;
+        Ok(Self::derived(ellipsoid, settings))
     }
 
     // The settings and the numbers made of them.
-    fn derived(
-        ellipsoid: Ellipsoid,
-        lon0: f64,
-        lat0: f64,
-        false_easting: f64,
-        false_northing: f64,
-    ) -> CassiniSoldner
-        ensures { result ≡ derived ellipsoid lon0 lat0 false_easting false_northing }
+    #[tactic(auto, unfolding(crate::specs::CassiniSoldner::derived, meridian::specs::Meridian::third_flattening))]
+    fn derived(ellipsoid: Ellipsoid, settings: Settings) -> CassiniSoldner
+        ensures { result ≡ derived ellipsoid settings }
     {
         let a = ellipsoid.a;
         let e2 = ellipsoid.e2();
-        let arc = arc_coefficients(a, e2);
+        let arc = ArcCoefficients::new(a, e2);
         let sqrt_one_minus_e2 = root(1.0 - e2);
         let e1 = (1.0 - sqrt_one_minus_e2) / (1.0 + sqrt_one_minus_e2);
-        let back = footpoint_coefficients(e1);
         CassiniSoldner {
             a,
             e2,
             ep2: ellipsoid.ep2(),
             a_one_minus_e2: a * (1.0 - e2),
-            lon0,
-            false_easting,
-            false_northing,
-            m0: meridional_arc(lat0, arc.coeff0, arc.coeff2, arc.coeff4, arc.coeff6),
-            meridional_coeff0: arc.coeff0,
-            meridional_coeff2: arc.coeff2,
-            meridional_coeff4: arc.coeff4,
-            meridional_coeff6: arc.coeff6,
+            lon0: settings.lon0,
+            false_easting: settings.false_easting,
+            false_northing: settings.false_northing,
+            m0: arc.at(settings.lat0),
+            arc,
             mu_denom: arc.coeff0,
-            e1_coeff2: back.coeff2,
-            e1_coeff4: back.coeff4,
-            e1_coeff6: back.coeff6,
-            e1_coeff8: back.coeff8,
+            back: FootpointCoefficients::new(e1),
         }
     }
 
+    #[tactic(auto, unfolding(crate::specs::CassiniSoldner::forward, projection::specs::Starts::entered))]
     pub fn forward(self, lon: f64, lat: f64) -> Answer
         ensures { result ≡ forward self lon lat }
     {
-        match enter(lon, lat, self.lon0) {
-            Entrance::Passed(d_lon) => self.projected(d_lon, lat),
-            Entrance::Refused(n) => Answer::Refused(n),
-        }
+        let d_lon = enter(lon, lat, self.lon0)?;
+        self.projected(d_lon, lat)
     }
 
+    #[tactic(auto, unfolding(crate::specs::CassiniSoldner::projected, trigonometry::specs::Trigonometry::tangent))]
     fn projected(self, d_lon: f64, lat: f64) -> Answer
         ensures { result ≡ projected self d_lon lat }
     {
@@ -130,19 +92,14 @@ impl CassiniSoldner {
         let t = tan_phi * tan_phi;
         let c = self.ep2 * cos_phi * cos_phi;
         let a_coeff = d_lon * cos_phi;
-        let m = meridional_arc(
-            lat,
-            self.meridional_coeff0,
-            self.meridional_coeff2,
-            self.meridional_coeff4,
-            self.meridional_coeff6,
-        );
+        let m = self.arc.at(lat);
         let x = self.false_easting + n_val * easting_series(a_coeff, t, c);
         let y = self.false_northing + m - self.m0
             + n_val * tan_phi * northing_series(a_coeff, t, c);
         ensure_finite_xy(x, y)
     }
 
+    #[tactic(auto, unfolding(crate::specs::CassiniSoldner::from_footpoint, crate::specs::CassiniSoldner::place, trigonometry::specs::Trigonometry::tangent))]
     fn from_footpoint(self, x: f64, lat1: f64) -> Answer
         ensures { result ≡ from_footpoint self x lat1 }
     {
@@ -150,7 +107,7 @@ impl CassiniSoldner {
         let sin_lat1 = phi1.sin;
         let cos_lat1 = phi1.cos;
         if abs(cos_lat1) < Self::POLE_EPSILON {
-            Answer::Pair(self.lon0, pick(0.0 < lat1, FRAC_PI_2, -FRAC_PI_2))
+            Ok((self.lon0, pick(0.0 < lat1, FRAC_PI_2, -FRAC_PI_2)))
         } else {
             let tan_lat1 = sin_lat1 / cos_lat1;
             let w1 = 1.0 - self.e2 * sin_lat1 * sin_lat1;
@@ -160,30 +117,22 @@ impl CassiniSoldner {
             let d = (x - self.false_easting) / n1;
             let lat = lat1 - (n1 * tan_lat1 / r1) * latitude_series(d, t1);
             let lon = self.lon0 + longitude_series(d, t1) / cos_lat1;
-            Answer::Pair(lon, lat)
+            Ok((lon, lat))
         }
     }
 
     // 20, or the place before its longitude is normalised.
+    #[tactic(auto, unfolding(crate::specs::CassiniSoldner::formula, crate::specs::CassiniSoldner::footpoint))]
     fn formula(self, x: f64, y: f64) -> Answer
         ensures { result ≡ formula self x y }
     {
-        let fault = validate_projected(x, y);
-        if fault == 0 {
-            let m1 = self.m0 + y - self.false_northing;
-            let lat1 = footpoint_latitude(
-                m1 / self.mu_denom,
-                self.e1_coeff2,
-                self.e1_coeff4,
-                self.e1_coeff6,
-                self.e1_coeff8,
-            );
-            self.from_footpoint(x, lat1)
-        } else {
-            Answer::Refused(fault)
-        }
+        validate_projected(x, y)?;
+        let m1 = self.m0 + y - self.false_northing;
+        let lat1 = self.back.latitude(m1 / self.mu_denom);
+        self.from_footpoint(x, lat1)
     }
 
+    #[tactic(auto, unfolding(crate::specs::CassiniSoldner::inverse))]
     pub fn inverse(self, x: f64, y: f64) -> Answer
         ensures { (result ≡ inverse self x y) × OnTheMap (formula self x y) result }
     {

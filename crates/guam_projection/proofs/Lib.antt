@@ -1,2 +1,1 @@
 mod Rounds
-pub mod NeverZero

@@ -8,9 +8,9 @@ ghost use Rattle.guam_projection.specs.GuamProjection.{derived, checked, built, 
 use ellipsoid::Ellipsoid;
 use meridian::{inverse_meridian_arc, meridian_arc, meridian_arc_coefficients};
 use projection::{
-    Answer, Entrance, ensure_finite_xy, enter, finish, validate_projected, validate_settings,
+    Answer, Settings, ensure_finite_xy, enter, finish, validate_projected, validate_settings,
 };
-use refusals::SPHERE;
+use refusals::Refusal;
 use root::root;
 use trigonometry::{cos, sin_cos};
 
@@ -27,16 +27,10 @@ pub struct GuamProjection {
     pub m1: f64,
 }
 
-#[derive(Clone, Copy)]
-pub enum BuiltGuamProjection {
-    Built(GuamProjection),
-    Refused(u8),
-}
-
-// The constructor's answer, and beside it the meridian numbers.
+// The constructor's answer, and beside it the meridian numbers: C's `lenthuc_build` promises them of a refused projection too.
 #[derive(Clone, Copy)]
 pub struct NewGuamProjection {
-    pub built: BuiltGuamProjection,
+    pub built: Result<GuamProjection, Refusal>,
     pub en: [f64; 13],
 }
 
@@ -51,84 +45,69 @@ impl GuamProjection {
     // The inverse's rounds.
     const STEPS: usize = 3;
 
-    pub fn new(
-        ellipsoid: Ellipsoid,
-        lon0: f64,
-        lat0: f64,
-        false_easting: f64,
-        false_northing: f64,
-    ) -> NewGuamProjection
-        ensures { result ≡ new ellipsoid lon0 lat0 false_easting false_northing }
+    #[tactic(auto, unfolding(crate::specs::GuamProjection::new))]
+    pub fn new(ellipsoid: Ellipsoid, settings: Settings) -> NewGuamProjection
+        ensures { result ≡ new ellipsoid settings }
     {
         let en = meridian_arc_coefficients(ellipsoid.e2());
         NewGuamProjection {
-            built: Self::built(ellipsoid, lon0, lat0, false_easting, false_northing, en),
+            built: Self::built(ellipsoid, settings, en),
             en,
         }
     }
 
+    #[tactic(auto, unfolding(crate::specs::GuamProjection::built))]
     fn built(
         ellipsoid: Ellipsoid,
-        lon0: f64,
-        lat0: f64,
-        false_easting: f64,
-        false_northing: f64,
+        settings: Settings,
         en: [f64; 13],
-    ) -> BuiltGuamProjection
-        ensures { result ≡ built ellipsoid lon0 lat0 false_easting false_northing en }
+    ) -> Result<GuamProjection, Refusal>
+        ensures { result ≡ built ellipsoid settings en }
     {
-        let fault = validate_settings(lon0, lat0, 0.0, 0.0, false_easting, false_northing);
-        if fault == 0 {
-            Self::derived(ellipsoid, lon0, lat0, false_easting, false_northing, en).checked()
-        } else {
-            BuiltGuamProjection::Refused(fault)
-        }
+        validate_settings(settings)?;
+        Self::derived(ellipsoid, settings, en).checked()
     }
 
-    fn derived(
-        ellipsoid: Ellipsoid,
-        lon0: f64,
-        lat0: f64,
-        false_easting: f64,
-        false_northing: f64,
-        en: [f64; 13],
-    ) -> GuamProjection
-        ensures { result ≡ derived ellipsoid lon0 lat0 false_easting false_northing en }
+    #[tactic(auto, unfolding(crate::specs::GuamProjection::derived))]
+    fn derived(ellipsoid: Ellipsoid, settings: Settings, en: [f64; 13]) -> GuamProjection
+        ensures { result ≡ derived ellipsoid settings en }
     {
         let e2 = ellipsoid.e2();
+        let lat0 = settings.lat0;
         let sc = sin_cos(lat0);
         GuamProjection {
             a: ellipsoid.a,
             e2,
             e: root(e2),
-            lon0,
+            lon0: settings.lon0,
             lat0,
-            false_easting,
-            false_northing,
+            false_easting: settings.false_easting,
+            false_northing: settings.false_northing,
             m1: meridian_arc(lat0, sc.sin, sc.cos, en),
         }
     }
 
     // 11, or the projection.
-    fn checked(self) -> BuiltGuamProjection
+    #[tactic(auto, unfolding(crate::specs::GuamProjection::checked))]
+    fn checked(self) -> Result<GuamProjection, Refusal>
         ensures { result ≡ checked self }
     {
         if self.e2 == 0.0 {
-            BuiltGuamProjection::Refused(SPHERE)
+            Err(Refusal::Sphere)
         } else {
-            BuiltGuamProjection::Built(self)
+            Ok(self)
         }
     }
 
+    #[tactic(auto, unfolding(crate::specs::GuamProjection::forward, projection::specs::Starts::entered))]
     pub fn forward(self, en: [f64; 13], lon: f64, lat: f64) -> Answer
         ensures { result ≡ forward self en lon lat }
     {
-        match enter(lon, lat, self.lon0) {
-            Entrance::Passed(d_lon) => self.projected(en, d_lon, lat),
-            Entrance::Refused(n) => Answer::Refused(n),
-        }
+        let d_lon = enter(lon, lat, self.lon0)?;
+        self.projected(en, d_lon, lat)
     }
 
+    #[tactic(auto, unfolding(crate::specs::GuamProjection::projected))]
     fn projected(self, en: [f64; 13], d_lon: f64, lat: f64) -> Answer
         ensures { result ≡ projected self en d_lon lat }
     {
@@ -146,6 +125,7 @@ impl GuamProjection {
     }
 
     // A round of the inverse from the latitude phi.
+    #[tactic(auto, unfolding(crate::specs::GuamProjection::round_from, trigonometry::specs::Trigonometry::tangent))]
     fn round_from(self, en: [f64; 13], ys: f64, x2: f64, phi: f64) -> Round
         ensures { result ≡ round_from self en ys x2 phi }
     {
@@ -160,6 +140,7 @@ impl GuamProjection {
         }
     }
 
+    #[tactic(auto, using(crate::proofs::Rounds::none_left, crate::proofs::Rounds::one_more), unfolding(crate::specs::GuamProjection::rounds))]
     fn rounds(self, en: [f64; 13], ys: f64, x2: f64) -> Round
         ensures { result ≡ rounds self en ys x2 }
     {
@@ -173,27 +154,26 @@ impl GuamProjection {
         last
     }
 
+    #[tactic(auto, unfolding(crate::specs::GuamProjection::place, crate::specs::GuamProjection::at_round))]
     fn place(self, en: [f64; 13], xs: f64, ys: f64) -> Answer
         ensures { result ≡ place self en xs ys }
     {
         let last = self.rounds(en, ys, 0.5 * xs * xs);
-        Answer::Pair(self.lon0 + xs * last.t / cos(last.phi), last.phi)
+        Ok((self.lon0 + xs * last.t / cos(last.phi), last.phi))
     }
 
     // 20, or the place before its longitude is normalised.
+    #[tactic(auto, unfolding(crate::specs::GuamProjection::formula))]
     fn formula(self, en: [f64; 13], x: f64, y: f64) -> Answer
         ensures { result ≡ formula self en x y }
     {
-        let fault = validate_projected(x, y);
-        if fault == 0 {
-            let xs = (x - self.false_easting) / self.a;
-            let ys = (y - self.false_northing) / self.a;
-            self.place(en, xs, ys)
-        } else {
-            Answer::Refused(fault)
-        }
+        validate_projected(x, y)?;
+        let xs = (x - self.false_easting) / self.a;
+        let ys = (y - self.false_northing) / self.a;
+        self.place(en, xs, ys)
     }
 
+    #[tactic(auto, unfolding(crate::specs::GuamProjection::inverse))]
     pub fn inverse(self, en: [f64; 13], x: f64, y: f64) -> Answer
         ensures { (result ≡ inverse self en x y) × OnTheMap (formula self en x y) result }
     {
