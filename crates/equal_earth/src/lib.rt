@@ -172,6 +172,7 @@ impl EqualEarth {
     }
 
     // The parametric latitude ψ of a northing on the unit sphere.
+    #[tactic(auto, using(projection::proofs::Steps::rounds_used_up), unfolding(crate::specs::EqualEarth::psi_of_northing))]
     fn psi_of_northing(ys: f64) -> Result<f64, Refusal>
         ensures { result ≡ psi_of_northing ys }
     {
