@@ -1,6 +1,5 @@
 pub mod AsInSource
 pub mod GivenQuotients
-pub mod NeverZero
 pub mod OnSphere
 pub mod OppositeParallels
 pub mod SphereInSource

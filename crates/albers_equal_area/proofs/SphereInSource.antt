@@ -1,8 +1,6 @@
 -- On a sphere the source's formulas answer no point: e is 0, 1/(2e) an infinity, its product with ln 1 a NaN, and so q is.
 use mathlib.Core.Path.{◌≡◌, refl, sym, ap, ◌∙◌}
 use mathlib.Core.Bool.{Bool, true, false, cond}
-use Prim.Native.Nat.{ℕ, zero, suc}
-use native.Mathlib.Omega.{arith}
 use lib.Ieee.{Float, nan, binary64}
 use lib.Ieee.Fits.{sub-fits}
 use Rattle.float.specs.Operators.{◌⊕◌, ◌⊖◌, ◌⊗◌, ◌⊘◌, ◌≺◌}
@@ -16,11 +14,14 @@ use Rattle.fixed.specs.Opened.{opened}
 use Rattle.trigonometry.specs.Trigonometry.{sine}
 use Rattle.ellipsoid.specs.Ellipsoid.{e2}
 use Rattle.ellipsoid.specs.declared.Ellipsoid.{Ellipsoid}
-use Rattle.refusals.specs.Refusals.{CONE_CONSTANT, FORWARD_RESULT, STEPS_USED_UP}
-use Rattle.projection.specs.Checks.{guard, validate_settings, validate_lon_lat, validate_projected}
+use Rattle.std.specs.Prelude.{Result, Ok, Err}
+use Rattle.std.specs.Result.{result_and}
+use Rattle.refusals.specs.declared.Refusal.{Refusal}
+use Rattle.refusals.specs.declared.Refusal.TheVariants.{ConeConstant, ForwardResult, StepsUsedUp}
+use Rattle.refusals.proofs.Refused.{refused}
+use Rattle.projection.specs.Checks.{Check, validate_settings, validate_lon_lat, validate_projected}
 use Rattle.projection.specs.Ends.{ensure_finite_xy}
-use Rattle.projection.specs.declared.Answer.TheVariants as answer
-use Rattle.projection.specs.declared.Solution.TheVariants as solution
+use Rattle.projection.specs.declared.Settings.{Settings}
 use Rattle.projection.proofs.AsInSource.{settings_as_in_source}
 use Rattle.projection.proofs.Steps.{never_converges}
 use Rattle.albers_equal_area.specs.Parallels.{NO_CONE}
@@ -28,8 +29,6 @@ use Rattle.albers_equal_area.specs.OnEllipsoid.{q_func, latitude_round, lat_from
 use Rattle.albers_equal_area.specs.OnSphere.{is_sphere}
 use Rattle.albers_equal_area.specs.AsInSource.{source_n, source_derived, source_checked, source_new, source_projected, source_forward, source_ended, source_inverse}
 use Rattle.albers_equal_area.specs.declared.AlbersEqualArea.{AlbersEqualArea}
-use Rattle.albers_equal_area.specs.declared.BuiltAlbersEqualArea.{BuiltAlbersEqualArea}
-use Rattle.albers_equal_area.specs.declared.BuiltAlbersEqualArea.TheVariants.{Built, Refused}
 
 -- ---- q, by (3-12) with e = 0
 
@@ -55,7 +54,7 @@ q_nan lat e2 s = rw (infinite_times s (zero_of s ⊗ sine lat) (zero_times binar
 
 -- ---- a projection whose e is 0
 module _ (p : AlbersEqualArea) where
-  projects_nothing : (s : Bool) → p.e ≡ zero_of s → (lon lat : Float) → source_projected p lon lat ≡ answer.Refused FORWARD_RESULT
+  projects_nothing : (s : Bool) → p.e ≡ zero_of s → (lon lat : Float) → source_projected p lon lat ≡ Err ForwardResult
   unfolding ensure_finite_xy abs negative root
   projects_nothing s h lon lat = rw (h, q_nan lat p.e2 s, mul_nan, sub_nan, mul_nan, nan_div, nan_mul binary64 (sine _), add_nan)
 
@@ -63,35 +62,31 @@ module _ (p : AlbersEqualArea) where
   unfolding latitude_round
   round_nan lat = rw (nan_div, nan_sub, nan_add, mul_nan, add_nan)
 
-  finds_nothing : lat_from_q nan p.e p.e2 ≡ solution.Refused STEPS_USED_UP
+  finds_nothing : lat_from_q nan p.e p.e2 ≡ Err StepsUsedUp
   unfolding lat_from_q
   finds_nothing = never_converges (latitude_round nan p.e p.e2) TOLERANCE round_nan STEPS _
 
-  ends_nowhere : p.c ≡ nan → (x y : Float) → source_inverse p x y ≡ guard (validate_projected x y) answer.Refused (answer.Refused STEPS_USED_UP)
+  ends_nowhere : p.c ≡ nan → (x y : Float) → source_inverse p x y ≡ result_and (validate_projected x y) (Err StepsUsedUp)
   unfolding source_ended
   ends_nowhere h x y = rw (h, nan_sub, nan_div, finds_nothing)
 
 -- ---- what the source builds
 
 -- a projection that is built passed the settings' checks and 15
-passed : (m : ℕ) (built : BuiltAlbersEqualArea) (p : AlbersEqualArea) → guard m Refused built ≡ Built p → built ≡ Built p
-unfolding guard
-passed zero built p h = h
-passed (suc m) built p h = let c : ◌≡◌ {A = ℕ} 0 1 = cc in absurd (omega arith)
+passed : (c : Check) (built : Result AlbersEqualArea Refusal) (p : AlbersEqualArea) → result_and c built ≡ Ok p → built ≡ Ok p
+passed (Ok x) built p h = h
+passed (Err r) built p h = refused h
 
-not_refused : (b : Bool) (k : ℕ) (derived p : AlbersEqualArea) → cond b (Refused k) (Built derived) ≡ Built p → derived ≡ p
-not_refused true k derived p h = let c : ◌≡◌ {A = ℕ} 0 1 = cc in absurd (omega arith)
-not_refused false k derived p h = cc
+not_refused : (b : Bool) (r : Refusal) (derived p : AlbersEqualArea) → cond b (Err r) (Ok derived) ≡ Ok p → derived ≡ p
+not_refused true r derived p h = refused h
+not_refused false r derived p h = cc
 
-module _ (ellipsoid : Ellipsoid) (lon0 lat0 lat1 lat2 false_easting false_northing : Float) (p : AlbersEqualArea)
-    (built : source_new ellipsoid lon0 lat0 lat1 lat2 false_easting false_northing ≡ Built p) where
-  is_derived : source_derived ellipsoid lon0 lat0 lat1 lat2 false_easting false_northing ≡ p
+module _ (ellipsoid : Ellipsoid) (s : Settings) (p : AlbersEqualArea) (built : source_new ellipsoid s ≡ Ok p) where
+  is_derived : source_derived ellipsoid s ≡ p
   is_derived =
-      let whole = source_checked ellipsoid lon0 lat0 lat1 lat2 false_easting false_northing in
-      not_refused (abs (source_n ellipsoid lat1 lat2) ≺ NO_CONE) CONE_CONSTANT
-      (source_derived ellipsoid lon0 lat0 lat1 lat2 false_easting false_northing) p
-      (passed (validate_settings lon0 lat0 lat1 lat2 false_easting false_northing) whole p
-      (sym (settings_as_in_source lon0 lat0 lat1 lat2 false_easting false_northing Refused whole) ∙ built))
+      let whole = source_checked ellipsoid s in
+      not_refused (abs (source_n ellipsoid s.lat1 s.lat2) ≺ NO_CONE) ConeConstant (source_derived ellipsoid s) p
+      (passed (validate_settings s) whole p (sym (settings_as_in_source s whole) ∙ built))
 
   pub e2_is : p.e2 ≡ e2 ellipsoid
   e2_is = ap (λ (r : AlbersEqualArea). r.e2) (sym is_derived)
@@ -109,12 +104,12 @@ module _ (ellipsoid : Ellipsoid) (lon0 lat0 lat1 lat2 false_easting false_northi
   unfolding root
   c_nan sphere =
       ap (λ (r : AlbersEqualArea). r.c) (sym is_derived)
-      ∙ rw (ap root (e2_zero sphere), q_nan lat1 (e2 ellipsoid) (negative (e2 ellipsoid)), mul_nan, add_nan)
+      ∙ rw (ap root (e2_zero sphere), q_nan s.lat1 (e2 ellipsoid) (negative (e2 ellipsoid)), mul_nan, add_nan)
 
   pub forward_refused : is_sphere (e2 ellipsoid) ≡ true → (lon lat : Float)
-      → source_forward p lon lat ≡ guard (validate_lon_lat lon lat) answer.Refused (answer.Refused FORWARD_RESULT)
+      → source_forward p lon lat ≡ result_and (validate_lon_lat lon lat) (Err ForwardResult)
   forward_refused sphere lon lat = rw (projects_nothing p (negative (e2 ellipsoid)) (e_zero sphere) lon lat)
 
   pub inverse_refused : is_sphere (e2 ellipsoid) ≡ true → (x y : Float)
-      → source_inverse p x y ≡ guard (validate_projected x y) answer.Refused (answer.Refused STEPS_USED_UP)
+      → source_inverse p x y ≡ result_and (validate_projected x y) (Err StepsUsedUp)
   inverse_refused sphere x y = ends_nowhere p (c_nan sphere) x y

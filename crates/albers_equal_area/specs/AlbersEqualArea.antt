@@ -1,6 +1,7 @@
 -- Albers Equal Area (Snyder, PP 1395, chapter 14; IOGP 7-2 method 9822), in the source's order of operations.
 -- The source has the ellipsoid's formulas alone (specs/OnEllipsoid). Where e² is exactly 0 document 02 has Snyder's sphere (specs/OnSphere).
-use Rattle.std.specs.Prelude.{cond, Float}
+use Rattle.std.specs.Prelude.{cond, Float, Result, Ok, Err}
+use Rattle.std.specs.Result.{result_and}
 use Rattle.float.specs.Operators.{◌⊕◌, ◌⊖◌, ◌⊗◌, ◌⊘◌, ◌≺◌}
 use Rattle.float.specs.Sign.{abs, signum}
 use Rattle.root.specs.Root.{root}
@@ -8,21 +9,18 @@ use Rattle.trigonometry.specs.Trigonometry.{sine, cosine}
 use Rattle.fixed.specs.Arctangent.{atan2}
 use Rattle.ellipsoid.specs.Ellipsoid.{e2}
 use Rattle.ellipsoid.specs.declared.Ellipsoid.{Ellipsoid}
-use Rattle.refusals.specs.Refusals.{CONE_CONSTANT}
-use Rattle.projection.specs.Checks.{guard, validate_settings, validate_projected}
+use Rattle.refusals.specs.declared.Refusal.{Refusal}
+use Rattle.refusals.specs.declared.Refusal.TheVariants.{ConeConstant}
+use Rattle.projection.specs.Checks.{validate_settings, validate_projected}
 use Rattle.projection.specs.Starts.{enter, entered}
 use Rattle.projection.specs.Ends.{ensure_finite_xy, finish}
-use Rattle.projection.specs.declared.Answer.{Answer}
-use Rattle.projection.specs.declared.Answer.TheVariants.{Pair, Refused}
-use Rattle.projection.specs.declared.Solution.{Solution}
-use Rattle.projection.specs.declared.Solution.TheVariants as solution
+use Rattle.projection.specs.Answer.{Answer}
+use Rattle.projection.specs.declared.Settings.{Settings}
 use Rattle.albers_equal_area.specs.Parallels.{NO_CONE}
 use Rattle.albers_equal_area.specs.OnEllipsoid.{q_func, ellipsoid_cone, lat_from_q}
 use Rattle.albers_equal_area.specs.OnSphere.{is_sphere, sphere_q, sphere_cone, sphere_latitude}
 use Rattle.albers_equal_area.specs.declared.Cone.{Cone}
 use Rattle.albers_equal_area.specs.declared.AlbersEqualArea.{AlbersEqualArea}
-use Rattle.albers_equal_area.specs.declared.BuiltAlbersEqualArea.{BuiltAlbersEqualArea}
-use Rattle.albers_equal_area.specs.declared.BuiltAlbersEqualArea.TheVariants as built
 
 -- ρ = a √(C - nq) / n (14-12, and 14-12a for ρ0; 14-3 and 14-3a on a sphere). The source takes the size of C - nq.
 unfoldable pub parallel_radius : Float → Float → Float → Float → Float
@@ -31,34 +29,32 @@ parallel_radius a c n q = a ⊗ root (abs (c ⊖ n ⊗ q)) ⊘ n
 -- ---- the constructor
 
 -- n, C and the origin's q
-unfoldable pub cone : Float → Float → Float → Float → Float → Cone
-cone lat0 lat1 lat2 e e2 = cond (is_sphere e2) (sphere_cone lat0 lat1 lat2) (ellipsoid_cone lat0 lat1 lat2 e e2)
+unfoldable pub cone : Settings → Float → Float → Cone
+cone s e e2 = cond (is_sphere e2) (sphere_cone s) (ellipsoid_cone s e e2)
 
-unfoldable pub derived : Ellipsoid → Float → Float → Float → Float → Float → Float → AlbersEqualArea
-derived ellipsoid lon0 lat0 lat1 lat2 false_easting false_northing =
+unfoldable pub derived : Ellipsoid → Settings → AlbersEqualArea
+derived ellipsoid s =
     let e2 = e2 ellipsoid in
     let e = root e2 in
-    let found = cone lat0 lat1 lat2 e e2 in
+    let found = cone s e e2 in
     record {
       a = ellipsoid.a;
       e = e;
       e2 = e2;
-      lon0 = lon0;
+      lon0 = s.lon0;
       n = found.n;
       c = found.c;
       rho0 = parallel_radius ellipsoid.a found.c found.n found.q0;
-      false_easting = false_easting;
-      false_northing = false_northing;
+      false_easting = s.false_easting;
+      false_northing = s.false_northing;
     }
 
 -- 15 where n is too small; a NaN passes
-unfoldable pub checked : AlbersEqualArea → BuiltAlbersEqualArea
-checked p = cond (abs p.n ≺ NO_CONE) (built.Refused CONE_CONSTANT) (built.Built p)
+unfoldable pub checked : AlbersEqualArea → Result AlbersEqualArea Refusal
+checked p = cond (abs p.n ≺ NO_CONE) (Err ConeConstant) (Ok p)
 
-unfoldable pub new : Ellipsoid → Float → Float → Float → Float → Float → Float → BuiltAlbersEqualArea
-new ellipsoid lon0 lat0 lat1 lat2 false_easting false_northing =
-    guard (validate_settings lon0 lat0 lat1 lat2 false_easting false_northing) built.Refused
-    (checked (derived ellipsoid lon0 lat0 lat1 lat2 false_easting false_northing))
+unfoldable pub new : Ellipsoid → Settings → Result AlbersEqualArea Refusal
+new ellipsoid s = result_and (validate_settings s) (checked (derived ellipsoid s))
 
 -- ---- forward
 
@@ -79,8 +75,8 @@ forward p lon lat = entered (λ d_lon. projected p d_lon lat) (enter lon lat p.l
 -- ---- inverse
 
 -- the latitude of a q: on a sphere there is no round that could refuse
-unfoldable pub latitude_of_q : AlbersEqualArea → Float → Solution
-latitude_of_q p q = cond (is_sphere p.e2) (solution.Found (sphere_latitude q)) (lat_from_q q p.e p.e2)
+unfoldable pub latitude_of_q : AlbersEqualArea → Float → Result Float Refusal
+latitude_of_q p q = cond (is_sphere p.e2) (Ok (sphere_latitude q)) (lat_from_q q p.e p.e2)
 
 -- tan θ = x / (ρ0 - y) (14-11), with both signs turned where n is negative
 unfoldable pub theta_of_offset : AlbersEqualArea → Float → Float → Float
@@ -93,15 +89,15 @@ q_of_offset p dx dy =
     (p.c ⊖ rho ⊗ rho ⊗ p.n ⊗ p.n ⊘ (p.a ⊗ p.a)) ⊘ p.n
 
 -- λ = λ0 + θ / n (14-9), 01's formula's longitude, once there is a latitude
-unfoldable pub place : AlbersEqualArea → Float → Solution → Answer
-place p theta (solution.Found lat) = Pair (p.lon0 ⊕ theta ⊘ p.n) lat
-place p theta (solution.Refused number) = Refused number
+unfoldable pub place : AlbersEqualArea → Float → Result Float Refusal → Answer
+place p theta (Ok lat) = Ok (p.lon0 ⊕ theta ⊘ p.n, lat)
+place p theta (Err r) = Err r
 
 unfoldable pub formula : AlbersEqualArea → Float → Float → Answer
 formula p x y =
     let dx = x ⊖ p.false_easting in
     let dy = p.rho0 ⊖ (y ⊖ p.false_northing) in
-    guard (validate_projected x y) Refused (place p (theta_of_offset p dx dy) (latitude_of_q p (q_of_offset p dx dy)))
+    result_and (validate_projected x y) (place p (theta_of_offset p dx dy) (latitude_of_q p (q_of_offset p dx dy)))
 
 unfoldable pub inverse : AlbersEqualArea → Float → Float → Answer
 inverse p x y = finish (formula p x y)

@@ -5,6 +5,7 @@ use Rattle.float.specs.Operators.{◌⊕◌, ◌⊗◌, ◌⊘◌, ◌≈◌}
 use Rattle.float.specs.Constants.{+0, two}
 use Rattle.trigonometry.specs.Trigonometry.{sine, cosine}
 use Rattle.fixed.specs.Arctangent.{arcsine}
+use Rattle.projection.specs.declared.Settings.{Settings}
 use Rattle.albers_equal_area.specs.Parallels.{cone_constant}
 use Rattle.albers_equal_area.specs.declared.Cone.{Cone}
 
@@ -17,10 +18,10 @@ unfoldable pub sphere_q : Float → Float
 sphere_q lat = two ⊗ sine lat
 
 -- n = (sin φ1 + sin φ2) / 2 (14-6), C = cos² φ1 + 2 n sin φ1 (14-5)
-unfoldable pub sphere_cone : Float → Float → Float → Cone
-sphere_cone lat0 lat1 lat2 =
-    let n = cone_constant lat1 lat2 ((sine lat1 ⊕ sine lat2) ⊘ two) in
-    record { n = n; c = cosine lat1 ⊗ cosine lat1 ⊕ two ⊗ n ⊗ sine lat1; q0 = sphere_q lat0 }
+unfoldable pub sphere_cone : Settings → Cone
+sphere_cone s =
+    let n = cone_constant s.lat1 s.lat2 ((sine s.lat1 ⊕ sine s.lat2) ⊘ two) in
+    record { n = n; c = cosine s.lat1 ⊗ cosine s.lat1 ⊕ two ⊗ n ⊗ sine s.lat1; q0 = sphere_q s.lat0 }
 
 -- φ = arcsin (q / 2) (14-8): no rounds, and no clamp, so that beyond 1 it is a NaN
 unfoldable pub sphere_latitude : Float → Float

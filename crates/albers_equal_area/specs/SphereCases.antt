@@ -1,19 +1,17 @@
 -- What document 02 and its readings say of Albers on a sphere, at the edges: a table with a row for each case, and one theorem by computation.
 -- a is 1, and settings that a case does not name are 0.
-use Rattle.std.specs.Prelude.{ℕ, ◌^◌, ◌≡◌, refl, List, [], ◌∷◌, map, Float}
+use Rattle.std.specs.Prelude.{ℕ, ◌^◌, ◌≡◌, refl, List, [], ◌∷◌, map, Float, Result, Ok, Err}
 use Prim.Native.String.{String}
 use Rattle.std.specs.Float.{nan}
 use Rattle.std.specs.Float.Ieee.{neg}
 use Rattle.float.specs.Operators.{◌⊕◌, f64}
 use Rattle.float.specs.Constants.{+0, one, half, FRAC_PI_2, ratio}
-use Rattle.projection.specs.Results.{number}
-use Rattle.projection.specs.declared.Answer.{Answer}
-use Rattle.projection.specs.declared.Answer.TheVariants.{Pair, Refused}
+use Rattle.refusals.specs.Refusals.{number}
+use Rattle.refusals.specs.declared.Refusal.{Refusal}
+use Rattle.projection.specs.Answer.{Answer}
 use Rattle.albers_equal_area.specs.AlbersEqualArea.{new, forward, inverse}
 use Rattle.albers_equal_area.specs.Opened.{opened}
 use Rattle.albers_equal_area.specs.declared.AlbersEqualArea.{AlbersEqualArea}
-use Rattle.albers_equal_area.specs.declared.BuiltAlbersEqualArea.{BuiltAlbersEqualArea}
-use Rattle.albers_equal_area.specs.declared.BuiltAlbersEqualArea.TheVariants as built
 
 -- a row: what the case is, the number that is worked out, the number that document 02 gives
 pub record Row : Type 0 where
@@ -25,26 +23,28 @@ abbrev row : String → Answer → ℕ → Row
 row label answer says = record { label = label; worked_out = number answer; says = says }
 
 -- what a projection answers, once it is built
-unfoldable pub by : (AlbersEqualArea → Answer) → BuiltAlbersEqualArea → Answer
-by answer (built.Built p) = answer p
-by answer (built.Refused n) = Refused n
+unfoldable pub by : (AlbersEqualArea → Answer) → Result AlbersEqualArea Refusal → Answer
+by answer (Ok p) = answer p
+by answer (Err r) = Err r
 
 -- Albers on the flattening f, with the origin's latitude lat0 and the parallels lat1 and lat2
-abbrev on : Float → Float → Float → Float → BuiltAlbersEqualArea
-on f lat0 lat1 lat2 = new (record { a = one; f = f }) +0 lat0 lat1 lat2 +0 +0
+abbrev on : Float → Float → Float → Float → Result AlbersEqualArea Refusal
+on f lat0 lat1 lat2 =
+    new (record { a = one; f = f })
+    (record { lon0 = +0; lat0 = lat0; lat1 = lat1; lat2 = lat2; false_easting = +0; false_northing = +0 })
 
 -- between the parallels, the place (0, 0)
 abbrev between : String → Float → Float → ℕ → Row
 between label lat1 lat2 = row label (by (λ p. forward p +0 +0) (on +0 +0 lat1 lat2))
 
 -- on the flattening f with lat0 .6, the parallels .5 and .7
-abbrev atlas : Float → BuiltAlbersEqualArea
+abbrev atlas : Float → Result AlbersEqualArea Refusal
 atlas f = on f (ratio 6 10) half (ratio 7 10)
 
 -- there and back
 abbrev and_back : AlbersEqualArea → Answer → Answer
-and_back p (Pair x y) = inverse p x y
-and_back p (Refused n) = Refused n
+and_back p (Ok (x, y)) = inverse p x y
+and_back p (Err r) = Err r
 
 abbrev TINY : Float
 TINY = ratio 1 (10 ^ 13)

@@ -3,22 +3,24 @@ ghost use Rattle.std.specs.Prelude.{◌≡◌};
 ghost use Rattle.albers_equal_area.specs.AlbersEqualArea.{q_of_latitude, projected, forward};
 
 use crate::sphere::{is_sphere, sphere_q};
-use crate::{AlbersEqualArea, parallel_radius, q_func};
-use projection::{Answer, Entrance, ensure_finite_xy, enter};
+use crate::{AlbersEqualArea, parallel_radius};
+use projection::{Answer, ensure_finite_xy, enter};
 use trigonometry::sin_cos;
 
 impl AlbersEqualArea {
+    #[tactic(auto, unfolding(crate::specs::AlbersEqualArea::q_of_latitude))]
     fn q_of_latitude(self, lat: f64) -> f64
         ensures { result ≡ q_of_latitude self lat }
     {
         if is_sphere(self.e2) {
             sphere_q(lat)
         } else {
-            q_func(lat, self.e, self.e2)
+            self.eccentricity().q_func(lat)
         }
     }
 
     // The place on the map, at the radius rho and the angle n d_lon from the origin's meridian.
+    #[tactic(auto, unfolding(crate::specs::AlbersEqualArea::projected))]
     fn projected(self, d_lon: f64, lat: f64) -> Answer
         ensures { result ≡ projected self d_lon lat }
     {
@@ -30,12 +32,11 @@ impl AlbersEqualArea {
         ensure_finite_xy(x, y)
     }
 
+    #[tactic(auto, unfolding(crate::specs::AlbersEqualArea::forward, projection::specs::Starts::entered))]
     pub fn forward(self, lon: f64, lat: f64) -> Answer
         ensures { result ≡ forward self lon lat }
     {
-        match enter(lon, lat, self.lon0) {
-            Entrance::Passed(d_lon) => self.projected(d_lon, lat),
-            Entrance::Refused(number) => Answer::Refused(number),
-        }
+        let d_lon = enter(lon, lat, self.lon0)?;
+        self.projected(d_lon, lat)
     }
 }

@@ -13,8 +13,8 @@ mod sphere;
 use ellipsoid::Ellipsoid;
 use fixed::ln;
 use float::abs;
-use projection::validate_settings;
-use refusals::CONE_CONSTANT;
+use projection::{Settings, validate_settings};
+use refusals::Refusal;
 use root::root;
 use sphere::is_sphere;
 use trigonometry::{sin, sin_cos};
@@ -34,10 +34,11 @@ pub struct AlbersEqualArea {
     pub false_northing: f64,
 }
 
+// The first eccentricity, and its square.
 #[derive(Clone, Copy)]
-pub enum BuiltAlbersEqualArea {
-    Built(AlbersEqualArea),
-    Refused(u8),
+struct Eccentricity {
+    e: f64,
+    e2: f64,
 }
 
 // What the latitude settings give: n, C, and the q of the origin.
@@ -48,26 +49,31 @@ struct Cone {
     q0: f64,
 }
 
-fn m_func(lat: f64, e2: f64) -> f64
-    ensures { result ≡ m_func lat e2 }
-{
-    let sc = sin_cos(lat);
-    let sin_lat = sc.sin;
-    sc.cos / root(1.0 - e2 * sin_lat * sin_lat)
-}
+impl Eccentricity {
+    #[tactic(auto, unfolding(crate::specs::OnEllipsoid::m_func))]
+    fn m_func(self, lat: f64) -> f64
+        ensures { result ≡ m_func lat self.e2 }
+    {
+        let sc = sin_cos(lat);
+        let sin_lat = sc.sin;
+        sc.cos / root(1.0 - self.e2 * sin_lat * sin_lat)
+    }
 
-// Not the shared authalic_q, which counts a tiny e2 as a sphere's.
-pub(crate) fn q_func(lat: f64, e: f64, e2: f64) -> f64
-    ensures { result ≡ q_func lat e e2 }
-{
-    let sin_lat = sin(lat);
-    let e_sin = e * sin_lat;
-    (1.0 - e2)
-        * (sin_lat / (1.0 - e2 * sin_lat * sin_lat)
-            - (1.0 / (2.0 * e)) * ln((1.0 - e_sin) / (1.0 + e_sin)))
+    // Not the shared authalic_q, which counts a tiny e2 as a sphere's.
+    #[tactic(auto, unfolding(crate::specs::OnEllipsoid::q_func))]
+    pub(crate) fn q_func(self, lat: f64) -> f64
+        ensures { result ≡ q_func lat self.e self.e2 }
+    {
+        let sin_lat = sin(lat);
+        let e_sin = self.e * sin_lat;
+        (1.0 - self.e2)
+            * (sin_lat / (1.0 - self.e2 * sin_lat * sin_lat)
+                - (1.0 / (2.0 * self.e)) * ln((1.0 - e_sin) / (1.0 + e_sin)))
+    }
 }
 
 // The radius ρ of a parallel on the map, by its q.
+#[tactic(auto, unfolding(crate::specs::AlbersEqualArea::parallel_radius))]
 pub(crate) fn parallel_radius(a: f64, c: f64, n: f64, q: f64) -> f64
     ensures { result ≡ parallel_radius a c n q }
 {
@@ -81,104 +87,76 @@ impl AlbersEqualArea {
     // A cone constant below this in size is refused.
     const NO_CONE: f64 = 1e-12;
 
-    // The inverse's rounds, and the difference below which they end.
-    const STEPS: usize = 15;
-
-    const TOLERANCE: f64 = 1e-14;
-
-    pub fn new(
-        ellipsoid: Ellipsoid,
-        lon0: f64,
-        lat0: f64,
-        lat1: f64,
-        lat2: f64,
-        false_easting: f64,
-        false_northing: f64,
-    ) -> BuiltAlbersEqualArea
-        ensures { result ≡ new ellipsoid lon0 lat0 lat1 lat2 false_easting false_northing }
+    #[tactic(auto, unfolding(crate::specs::AlbersEqualArea::new))]
+    pub fn new(ellipsoid: Ellipsoid, settings: Settings) -> Result<AlbersEqualArea, Refusal>
+        ensures { result ≡ new ellipsoid settings }
     {
-        let fault = validate_settings(lon0, lat0, lat1, lat2, false_easting, false_northing);
-        if fault == 0 {
-            Self::derived(
-                ellipsoid,
-                lon0,
-                lat0,
-                lat1,
-                lat2,
-                false_easting,
-                false_northing,
-            )
-            .checked()
-        } else {
-            BuiltAlbersEqualArea::Refused(fault)
-        }
+        validate_settings(settings)?;
+        Self::derived(ellipsoid, settings).checked()
     }
 
-    fn derived(
-        ellipsoid: Ellipsoid,
-        lon0: f64,
-        lat0: f64,
-        lat1: f64,
-        lat2: f64,
-        false_easting: f64,
-        false_northing: f64,
-    ) -> AlbersEqualArea
-        ensures { result ≡ derived ellipsoid lon0 lat0 lat1 lat2 false_easting false_northing }
+    #[tactic(auto, unfolding(crate::specs::AlbersEqualArea::derived))]
+    fn derived(ellipsoid: Ellipsoid, settings: Settings) -> AlbersEqualArea
+        ensures { result ≡ derived ellipsoid settings }
     {
         let e2 = ellipsoid.e2();
         let e = root(e2);
-        let cone = Self::cone(lat0, lat1, lat2, e, e2);
+        let cone = Self::cone(settings, Eccentricity { e, e2 });
         AlbersEqualArea {
             a: ellipsoid.a,
             e,
             e2,
-            lon0,
+            lon0: settings.lon0,
             n: cone.n,
             c: cone.c,
             rho0: parallel_radius(ellipsoid.a, cone.c, cone.n, cone.q0),
-            false_easting,
-            false_northing,
+            false_easting: settings.false_easting,
+            false_northing: settings.false_northing,
         }
     }
 
-    fn cone(lat0: f64, lat1: f64, lat2: f64, e: f64, e2: f64) -> Cone
-        ensures { result ≡ cone lat0 lat1 lat2 e e2 }
+    #[tactic(auto, unfolding(crate::specs::AlbersEqualArea::cone))]
+    fn cone(settings: Settings, eccentricity: Eccentricity) -> Cone
+        ensures { result ≡ cone settings eccentricity.e eccentricity.e2 }
     {
-        if is_sphere(e2) {
-            Self::sphere_cone(lat0, lat1, lat2)
+        if is_sphere(eccentricity.e2) {
+            Self::sphere_cone(settings)
         } else {
-            Self::ellipsoid_cone(lat0, lat1, lat2, e, e2)
+            Self::ellipsoid_cone(settings, eccentricity)
         }
     }
 
-    fn ellipsoid_cone(lat0: f64, lat1: f64, lat2: f64, e: f64, e2: f64) -> Cone
-        ensures { result ≡ ellipsoid_cone lat0 lat1 lat2 e e2 }
+    #[tactic(auto, unfolding(crate::specs::OnEllipsoid::ellipsoid_cone))]
+    fn ellipsoid_cone(settings: Settings, eccentricity: Eccentricity) -> Cone
+        ensures { result ≡ ellipsoid_cone settings eccentricity.e eccentricity.e2 }
     {
-        let m1 = m_func(lat1, e2);
-        let m2 = m_func(lat2, e2);
-        let q0 = q_func(lat0, e, e2);
-        let q1 = q_func(lat1, e, e2);
-        let q2 = q_func(lat2, e, e2);
-        let n = Self::cone_constant(lat1, lat2, (m1 * m1 - m2 * m2) / (q2 - q1));
+        let m1 = eccentricity.m_func(settings.lat1);
+        let m2 = eccentricity.m_func(settings.lat2);
+        let q1 = eccentricity.q_func(settings.lat1);
+        let q2 = eccentricity.q_func(settings.lat2);
+        let of_two = (m1 * m1 - m2 * m2) / (q2 - q1);
+        let n = Self::cone_constant(settings.lat1, settings.lat2, of_two);
         Cone {
             n,
             c: m1 * m1 + n * q1,
-            q0,
+            q0: eccentricity.q_func(settings.lat0),
         }
     }
 
     // 15, or the projection.
-    fn checked(self) -> BuiltAlbersEqualArea
+    #[tactic(auto, unfolding(crate::specs::AlbersEqualArea::checked))]
+    fn checked(self) -> Result<AlbersEqualArea, Refusal>
         ensures { result ≡ checked self }
     {
         if abs(self.n) < Self::NO_CONE {
-            BuiltAlbersEqualArea::Refused(CONE_CONSTANT)
+            Err(Refusal::ConeConstant)
         } else {
-            BuiltAlbersEqualArea::Built(self)
+            Ok(self)
         }
     }
 
     // The n of two parallels, or sin lat1 where they count as one.
+    #[tactic(auto, unfolding(crate::specs::Parallels::cone_constant))]
     fn cone_constant(lat1: f64, lat2: f64, of_two: f64) -> f64
         ensures { result ≡ cone_constant lat1 lat2 of_two }
     {
@@ -186,6 +164,15 @@ impl AlbersEqualArea {
             sin(lat1)
         } else {
             of_two
+        }
+    }
+
+    fn eccentricity(self) -> Eccentricity
+        ensures { (result.e ≡ self.e) × (result.e2 ≡ self.e2) }
+    {
+        Eccentricity {
+            e: self.e,
+            e2: self.e2,
         }
     }
 }

@@ -4,15 +4,18 @@ ghost use Rattle.albers_equal_area.specs.OnSphere.{is_sphere, sphere_q, sphere_c
 
 use crate::{AlbersEqualArea, Cone};
 use fixed::asin;
+use projection::Settings;
 use trigonometry::{sin, sin_cos};
 
 // -0, the e2 of f = -0, equals 0; the least other e2 is an ellipsoid's.
+#[tactic(auto, unfolding(crate::specs::OnSphere::is_sphere))]
 pub(crate) fn is_sphere(e2: f64) -> bool
     ensures { result ≡ is_sphere e2 }
 {
     e2 == 0.0
 }
 
+#[tactic(auto, unfolding(crate::specs::OnSphere::sphere_q))]
 pub(crate) fn sphere_q(lat: f64) -> f64
     ensures { result ≡ sphere_q lat }
 {
@@ -20,6 +23,7 @@ pub(crate) fn sphere_q(lat: f64) -> f64
 }
 
 // No rounds. A q beyond 2 in size is off the map, and its arcsine a NaN.
+#[tactic(auto, unfolding(crate::specs::OnSphere::sphere_latitude))]
 pub(crate) fn sphere_latitude(q: f64) -> f64
     ensures { result ≡ sphere_latitude q }
 {
@@ -27,15 +31,17 @@ pub(crate) fn sphere_latitude(q: f64) -> f64
 }
 
 impl AlbersEqualArea {
-    pub(crate) fn sphere_cone(lat0: f64, lat1: f64, lat2: f64) -> Cone
-        ensures { result ≡ sphere_cone lat0 lat1 lat2 }
+    #[tactic(auto, unfolding(crate::specs::OnSphere::sphere_cone))]
+    pub(crate) fn sphere_cone(settings: Settings) -> Cone
+        ensures { result ≡ sphere_cone settings }
     {
-        let parallel = sin_cos(lat1);
-        let n = Self::cone_constant(lat1, lat2, (parallel.sin + sin(lat2)) / 2.0);
+        let parallel = sin_cos(settings.lat1);
+        let of_two = (parallel.sin + sin(settings.lat2)) / 2.0;
+        let n = Self::cone_constant(settings.lat1, settings.lat2, of_two);
         Cone {
             n,
             c: parallel.cos * parallel.cos + 2.0 * n * parallel.sin,
-            q0: sphere_q(lat0),
+            q0: sphere_q(settings.lat0),
         }
     }
 }

@@ -19,14 +19,14 @@ use Rattle.ellipsoid.specs.Ellipsoid as ellipsoids
 use Rattle.ellipsoid.specs.declared.Ellipsoid.{Ellipsoid}
 use Rattle.authalic.specs.Authalic.{spherical, authalic_q, geodetic_from_authalic}
 use Rattle.projection.specs.MapEdge.{beyond_edge}
-use Rattle.projection.specs.declared.Answer.TheVariants.{Pair}
+use Rattle.std.specs.Prelude.{Ok}
+use Rattle.projection.specs.Answer.{pair}
+use Rattle.projection.specs.Checks.{without_origin}
 use Rattle.projection.specs.declared.Frame.TheVariants.{Held}
-use Rattle.projection.specs.declared.Solution.TheVariants.{Found}
 use Rattle.projection.proofs.AsInSource.{no_origin_as_in_source}
 use Rattle.equal_earth.specs.EqualEarth.{M, MAX_Y, polar_q, derived, new, psi_of_northing, longitude_from_origin, latitude, place, scaled_place}
 use Rattle.equal_earth.specs.AsInSource.{source_derived, source_new, source_latitude}
 use Rattle.equal_earth.specs.declared.EqualEarth.{EqualEarth}
-use Rattle.equal_earth.specs.declared.BuiltEqualEarth.TheVariants.{Built, Refused}
 
 -- ---- the constructor
 sphere_rqda : one ≡ root (half ⊗ two)
@@ -38,7 +38,7 @@ rqda_is true q_p = sphere_rqda
 rqda_is false q_p = refl
 
 pub derived_as_in_source : (ellipsoid : Ellipsoid) (lon0 false_easting false_northing : Float)
-    → source_derived ellipsoid lon0 false_easting false_northing ≡ derived ellipsoid lon0 false_easting false_northing
+    → source_derived ellipsoid lon0 false_easting false_northing ≡ derived ellipsoid (without_origin lon0 false_easting false_northing)
 unfolding derived polar_q
 derived_as_in_source ellipsoid lon0 false_easting false_northing =
     let e2 = ellipsoids.e2 ellipsoid in
@@ -47,11 +47,11 @@ derived_as_in_source ellipsoid lon0 false_easting false_northing =
     (rqda_is (e2 ≈ +0) q_p)
 
 pub new_as_in_source : (ellipsoid : Ellipsoid) (lon0 false_easting false_northing : Float)
-    → source_new ellipsoid lon0 false_easting false_northing ≡ new ellipsoid lon0 false_easting false_northing
+    → source_new ellipsoid lon0 false_easting false_northing ≡ new ellipsoid (without_origin lon0 false_easting false_northing)
 unfolding new
 new_as_in_source ellipsoid lon0 false_easting false_northing =
     rw (derived_as_in_source ellipsoid lon0 false_easting false_northing)
-    (no_origin_as_in_source lon0 false_easting false_northing Refused (Built (derived ellipsoid lon0 false_easting false_northing)))
+    (no_origin_as_in_source lon0 false_easting false_northing (Ok (derived ellipsoid (without_origin lon0 false_easting false_northing))))
 
 -- ---- the inverse's latitude
 first_true : (a b : Bool) → (a && b) ≡ true → a ≡ true
@@ -95,6 +95,6 @@ module _ (p : EqualEarth) (xs : Float) where
   unfolding scaled_place beyond_edge
   held_as_in_source ys = refl
 
-  pub found_as_in_source : (psi : Float) → Pair (p.lon0 ⊕ longitude_from_origin xs psi) (latitude p psi) ≡ place Held p xs (Found psi)
+  pub found_as_in_source : (psi : Float) → pair (p.lon0 ⊕ longitude_from_origin xs psi) (latitude p psi) ≡ place Held p xs (Ok psi)
   unfolding place beyond_edge
   found_as_in_source psi = refl

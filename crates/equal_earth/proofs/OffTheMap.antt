@@ -1,5 +1,4 @@
 -- The second inverse is 30 for the clicks that document 02 names, and the first inverse elsewhere. It gives 30 for no other click.
-use Prim.Native.Nat.{ℕ}
 use mathlib.Core.Path.{◌≡◌, refl}
 use mathlib.Core.Bool.{Bool, true, false, ◌||◌}
 use native.Mathlib.Omega.{arith}
@@ -7,33 +6,34 @@ use lib.Ieee.{Float, neg}
 use Rattle.float.specs.Operators.{◌⊖◌, ◌⊗◌, ◌⊘◌, ◌≺◌}
 use Rattle.float.specs.Sign.{abs}
 use Rattle.float.specs.Limits.{clamp}
-use Rattle.refusals.specs.Refusals.{STEPS_USED_UP}
+use Rattle.std.specs.Prelude.{Result, Ok, Err}
+use Rattle.refusals.specs.Refusals.{other_number}
+use Rattle.refusals.specs.declared.Refusal.{Refusal}
+use Rattle.refusals.specs.declared.Refusal.TheVariants.{StepsUsedUp}
 use Rattle.projection.specs.MapEdge.{beyond_edge}
 use Rattle.projection.specs.declared.Frame.TheVariants.{Held, Refused}
-use Rattle.projection.specs.declared.Solution.{Solution}
-use Rattle.projection.specs.declared.Solution.TheVariants as solution
 use Rattle.projection.proofs.OffTheMap.{off_if, guard_off, finish_off, NeverOff, pair_never_off, refused_never_off, guard_never_off, finish_never_off, used_up}
 use Rattle.equal_earth.specs.EqualEarth.{MAX_Y, EDGE_Y, TOLERANCE, STEPS, newton, psi_of_northing, place, scaled_place, formula, inverse}
 use Rattle.equal_earth.specs.OffTheMap.{off_longitude, off_scaled, off_map}
 use Rattle.equal_earth.specs.declared.EqualEarth.{EqualEarth}
 
 module _ (p : EqualEarth) (xs : Float) where
-  place_is : (s : Solution) → place Refused p xs s ≡ off_if (off_longitude xs s) (place Held p xs s)
+  place_is : (s : Result Float Refusal) → place Refused p xs s ≡ off_if (off_longitude xs s) (place Held p xs s)
   unfolding place beyond_edge
-  place_is (solution.Found psi) = refl
-  place_is (solution.Refused n) = refl
+  place_is (Ok psi) = refl
+  place_is (Err r) = refl
 
   -- the first gives no 30 itself: rounds that are used up give 22
-  place_never_off : (s : Solution) → ((n : ℕ) → s ≡ solution.Refused n → n ≡ STEPS_USED_UP) → NeverOff (place Held p xs s)
+  place_never_off : (s : Result Float Refusal) → ((r : Refusal) → s ≡ Err r → r ≡ StepsUsedUp) → NeverOff (place Held p xs s)
   unfolding place beyond_edge
-  place_never_off (solution.Found psi) h = pair_never_off _ _
-  place_never_off (solution.Refused n) h = refused_never_off n (λ e. omega (arith, e, h n refl))
+  place_never_off (Ok psi) h = pair_never_off _ _
+  place_never_off (Err r) h = rw (h r refl) (refused_never_off StepsUsedUp (other_number _ _ (λ e. omega (arith, e))))
 
   scaled_is : (ys : Float) → scaled_place Refused p xs ys ≡ off_if (off_scaled xs ys) (scaled_place Held p xs ys)
   unfolding scaled_place beyond_edge
   scaled_is ys = rw (place_is s) (go (EDGE_Y ≺ abs ys) (off_longitude xs s))
     where
-      s : Solution
+      s : Result Float Refusal
       s = psi_of_northing (clamp ys (neg MAX_Y) MAX_Y)
 
       go : (b e : Bool) → off_if b (off_if e (place Held p xs s)) ≡ off_if (b || e) (place Held p xs s)

@@ -1,6 +1,7 @@
 -- Equal Earth (Šavrič, Patterson and Jenny, 2018; IOGP 7-2 method 1078), in the source's order of operations.
 -- The source writes ψ for the parametric latitude that both papers call θ. Their equations are named here by what they give, not by a number.
-use Rattle.std.specs.Prelude.{◌≡◌, refl, [], ◌∷◌, cond, ℕ, ◌^◌, Float}
+use Rattle.std.specs.Prelude.{◌≡◌, refl, [], ◌∷◌, cond, ℕ, ◌^◌, Float, Result, Ok, Err}
+use Rattle.std.specs.Result.{result_and}
 use Rattle.std.specs.Float.Ieee.{neg, of_bits, round, add, mul, div}
 use Rattle.float.specs.Operators.{◌⊕◌, ◌⊖◌, ◌⊗◌, ◌⊘◌, ◌≈◌, f64}
 use Rattle.float.specs.Constants.{+0, half, one, two, three, PI, FRAC_PI_2, ratio}
@@ -11,21 +12,18 @@ use Rattle.trigonometry.specs.Trigonometry.{sine, cosine}
 use Rattle.fixed.specs.Arctangent.{arcsine}
 use Rattle.ellipsoid.specs.Ellipsoid.{e2}
 use Rattle.ellipsoid.specs.declared.Ellipsoid.{Ellipsoid}
-use Rattle.refusals.specs.Refusals.{OFF_THE_MAP}
+use Rattle.refusals.specs.declared.Refusal.{Refusal}
+use Rattle.refusals.specs.declared.Refusal.TheVariants.{OffTheMap}
 use Rattle.authalic.specs.Authalic.{authalic_q, geodetic_from_authalic}
-use Rattle.projection.specs.Checks.{guard, validate_settings, validate_projected}
+use Rattle.projection.specs.Checks.{validate_settings, validate_projected}
 use Rattle.projection.specs.Starts.{enter, entered}
 use Rattle.projection.specs.Iteration.{converge}
 use Rattle.projection.specs.Ends.{ensure_finite_xy, finish}
 use Rattle.projection.specs.MapEdge.{EDGE_EPSILON, beyond_edge}
-use Rattle.projection.specs.declared.Answer.{Answer}
-use Rattle.projection.specs.declared.Answer.TheVariants.{Pair, Refused}
+use Rattle.projection.specs.Answer.{Answer}
 use Rattle.projection.specs.declared.Frame.{Frame}
-use Rattle.projection.specs.declared.Solution.{Solution}
-use Rattle.projection.specs.declared.Solution.TheVariants as solution
+use Rattle.projection.specs.declared.Settings.{Settings}
 use Rattle.equal_earth.specs.declared.EqualEarth.{EqualEarth}
-use Rattle.equal_earth.specs.declared.BuiltEqualEarth.{BuiltEqualEarth}
-use Rattle.equal_earth.specs.declared.BuiltEqualEarth.TheVariants as built
 
 -- the paper's polynomial: y = A1 ψ + A2 ψ³ + A3 ψ⁷ + A4 ψ⁹ on the unit sphere
 abbrev pub A1 : Float
@@ -89,15 +87,13 @@ unfoldable pub polar_q : Float → Float
 polar_q e2 = cond (e2 ≈ +0) two (authalic_q FRAC_PI_2 e2)
 
 -- rqda is the authalic radius over a, root (q_p / 2) (Snyder 3-13). The source has 1 on a sphere, which is the same: specs/AsInSource.
-unfoldable pub derived : Ellipsoid → Float → Float → Float → EqualEarth
-derived ellipsoid lon0 false_easting false_northing =
+unfoldable pub derived : Ellipsoid → Settings → EqualEarth
+derived ellipsoid s =
     let q_p = polar_q (e2 ellipsoid) in
-    record { a = ellipsoid.a; e2 = e2 ellipsoid; lon0 = lon0; false_easting = false_easting; false_northing = false_northing; q_p = q_p; rqda = root (half ⊗ q_p) }
+    record { a = ellipsoid.a; e2 = e2 ellipsoid; lon0 = s.lon0; false_easting = s.false_easting; false_northing = s.false_northing; q_p = q_p; rqda = root (half ⊗ q_p) }
 
-unfoldable pub new : Ellipsoid → Float → Float → Float → BuiltEqualEarth
-new ellipsoid lon0 false_easting false_northing =
-    guard (validate_settings lon0 +0 +0 +0 false_easting false_northing) built.Refused
-    (built.Built (derived ellipsoid lon0 false_easting false_northing))
+unfoldable pub new : Ellipsoid → Settings → Result EqualEarth Refusal
+new ellipsoid s = result_and (validate_settings s) (Ok (derived ellipsoid s))
 
 -- ---- forward
 
@@ -127,7 +123,7 @@ newton ys yc =
     let y6 = y2 ⊗ y2 ⊗ y2 in
     yc ⊖ (yc ⊗ y_over_psi y2 y6 ⊖ ys) ⊘ y_derivative y2 y6
 
-unfoldable pub psi_of_northing : Float → Solution
+unfoldable pub psi_of_northing : Float → Result Float Refusal
 psi_of_northing ys = converge (newton ys) ys STEPS TOLERANCE
 
 -- λ - λ0 = (√3 / 2) x dy/dψ / cos ψ on the unit sphere
@@ -142,21 +138,21 @@ unfoldable pub latitude : EqualEarth → Float → Float
 latitude p psi = geodetic_from_authalic (arcsine (clamp (sine psi ⊘ M) (neg one) one)) p.e2
 
 -- Once the rounds have ended: 30 (document 02, Q-6), judged before λ0 is added, or the place with 01's "formula's longitude".
-unfoldable pub place : Frame → EqualEarth → Float → Solution → Answer
-place frame p xs (solution.Found psi) =
+unfoldable pub place : Frame → EqualEarth → Float → Result Float Refusal → Answer
+place frame p xs (Ok psi) =
     let d_lon = longitude_from_origin xs psi in
-    cond (beyond_edge frame (abs d_lon) EDGE_LON) (Refused OFF_THE_MAP) (Pair (p.lon0 ⊕ d_lon) (latitude p psi))
-place frame p xs (solution.Refused n) = Refused n
+    cond (beyond_edge frame (abs d_lon) EDGE_LON) (Err OffTheMap) (Ok (p.lon0 ⊕ d_lon, latitude p psi))
+place frame p xs (Err r) = Err r
 
 -- A scaled northing off the map is refused by 30, or held to the map's edge. The papers have no such rule.
 unfoldable pub scaled_place : Frame → EqualEarth → Float → Float → Answer
 scaled_place frame p xs ys =
-    cond (beyond_edge frame (abs ys) EDGE_Y) (Refused OFF_THE_MAP) (place frame p xs (psi_of_northing (clamp ys (neg MAX_Y) MAX_Y)))
+    cond (beyond_edge frame (abs ys) EDGE_Y) (Err OffTheMap) (place frame p xs (psi_of_northing (clamp ys (neg MAX_Y) MAX_Y)))
 
 unfoldable pub formula : Frame → EqualEarth → Float → Float → Answer
 formula frame p x y =
     let scale = p.a ⊗ p.rqda in
-    guard (validate_projected x y) Refused (scaled_place frame p ((x ⊖ p.false_easting) ⊘ scale) ((y ⊖ p.false_northing) ⊘ scale))
+    result_and (validate_projected x y) (scaled_place frame p ((x ⊖ p.false_easting) ⊘ scale) ((y ⊖ p.false_northing) ⊘ scale))
 
 -- the first inverse, which answers a click in the frame, by the map's edge or its other side, and the second, which refuses it
 unfoldable pub inverse : Frame → EqualEarth → Float → Float → Answer

@@ -1,14 +1,8 @@
 -- The rounds that are left give what all of them give.
-use mathlib.Core.Path.{refl}
 use native.Mathlib.Omega.{arith}
-use borrow.Author.Rules.{rules}
-use Rattle.projection.proofs.Steps.{converged, one_round, rounds_used_up}
+use Rattle.projection.proofs.Steps.{converged, one_round}
 use Rattle.equal_earth.specs.EqualEarth.{psi_of_northing}
 use Rattle.equal_earth.proofs.EqualEarth.psi_of_northing.Goals as goal
-
-pub loop-init : goal.loop-init
-unfolding psi_of_northing
-loop-init c = (search rules, refl)
 
 pub returns-then-abs : goal.returns-then-abs
 unfolding psi_of_northing
@@ -17,7 +11,3 @@ returns-then-abs c = converged _ _ _ _ c.loop.invariant.1 c.loop-test.true c.new
 pub loop-preserved : goal.loop-preserved
 unfolding psi_of_northing
 loop-preserved c = (omega arith, one_round _ _ _ _ c.loop.invariant.1 c.loop-test.true c.newton-next.ensures c.abs.ensures c.if-abs.false)
-
-pub returns : goal.returns
-unfolding psi_of_northing
-returns c = rounds_used_up _ _ _ _ _ c.loop.invariant.1 c.loop-test.false

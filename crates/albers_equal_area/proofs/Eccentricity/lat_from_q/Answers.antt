@@ -1,15 +1,10 @@
 -- The rounds that are left give what all of them give, and a round that is given its two quotients is the definition's (`given_quotients`).
 use mathlib.Core.Path.{◌∙◌}
 use native.Mathlib.Omega.{arith}
-use borrow.Author.Rules.{rules}
 use Rattle.projection.proofs.Steps.{converged, one_round, rounds_used_up}
 use Rattle.albers_equal_area.specs.OnEllipsoid.{lat_from_q}
 use Rattle.albers_equal_area.proofs.GivenQuotients.{given_quotients}
-use Rattle.albers_equal_area.proofs.AlbersEqualArea.lat_from_q.Goals as goal
-
-pub loop-init : goal.loop-init
-unfolding lat_from_q
-loop-init c = (search rules, rw c.asin-lat.ensures)
+use Rattle.albers_equal_area.proofs.Eccentricity.lat_from_q.Goals as goal
 
 pub returns-then-abs : goal.returns-then-abs
 unfolding lat_from_q

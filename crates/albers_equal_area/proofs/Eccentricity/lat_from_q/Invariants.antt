@@ -3,10 +3,10 @@ use Prim.Native.Nat.{◌≤◌, ◌-◌}
 use mathlib.Core.Path.{◌≡◌}
 use Rattle.projection.specs.Iteration.{converge}
 use Rattle.albers_equal_area.specs.OnEllipsoid.{latitude_round, lat_from_q, STEPS, TOLERANCE}
-use Rattle.albers_equal_area.proofs.AlbersEqualArea.lat_from_q.Given as goal
+use Rattle.albers_equal_area.proofs.Eccentricity.lat_from_q.Given as goal
 
 abbrev pub invariant-loop : goal.invariant-loop
-invariant-loop l = (l.counter ≤ STEPS) × (converge (latitude_round l.q l.e l.e2) l.lat (STEPS - l.counter) TOLERANCE ≡ lat_from_q l.q l.e l.e2)
+invariant-loop l = (l.counter ≤ STEPS) × (converge (latitude_round l.q l.self.e l.self.e2) l.lat (STEPS - l.counter) TOLERANCE ≡ lat_from_q l.q l.self.e l.self.e2)
 
 abbrev pub decreases-loop : goal.decreases-loop
 decreases-loop l = STEPS - l.counter
