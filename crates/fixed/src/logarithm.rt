@@ -5,17 +5,13 @@ ghost use Rattle.float.specs.Operators.{f64};
 ghost use Rattle.fixed.specs.Logarithm.{ln_near_one, ln_parts, ln};
 
 use float::{bits_of, is_finite, nan, pick};
-use sums::{bit, odd_sum};
-
-const SQRT_2: f64 = f64::from_bits(0x3ff6_a09e_667f_3bcd);
+use std::f64::consts::SQRT_2;
+use sums::odd_sum;
 
 // ln 2: its first 32 binary digits, and the f64 nearest to the rest.
 const LN_2_HIGH: f64 = f64::from_bits(0x3fe6_2e42_fee0_0000);
 
 const LN_2_LOW: f64 = f64::from_bits(0x3dea_39ef_3579_3c76);
-
-// The least normal f64, 2^-1022.
-const MIN_POSITIVE: f64 = f64::from_bits(0x0010_0000_0000_0000);
 
 const TWO_54: f64 = f64::from_bits(0x4350_0000_0000_0000);
 
@@ -41,7 +37,7 @@ fn ln_of_pattern(b: u64, bias: u32) -> f64
 {
     let m = f64::from_bits(0x3ff0_0000_0000_0000 + b % 0x10_0000_0000_0000);
     let above = m > SQRT_2;
-    let k = difference((b / 0x10_0000_0000_0000) as u32 + bit(above), bias);
+    let k = difference((b / 0x10_0000_0000_0000) as u32 + u32::from(above), bias);
     ln_near_one(pick(above, m * 0.5, m), k)
 }
 
@@ -51,12 +47,12 @@ pub fn ln(x: f64) -> f64
 {
     if x > 0.0 {
         if is_finite(x) {
-            if x < MIN_POSITIVE {
+            if x < f64::MIN_POSITIVE {
                 return ln_of_pattern(bits_of(x * TWO_54), 1077);
             }
             return ln_of_pattern(bits_of(x), 1023);
         }
         return x;
     }
-    if x == 0.0 { -1.0 / 0.0 } else { nan() }
+    if x == 0.0 { f64::NEG_INFINITY } else { nan() }
 }

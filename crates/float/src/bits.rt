@@ -7,40 +7,39 @@ ghost use Rattle.std.specs.Float.Ieee.Scale.{finite};
 pub fn nan() -> f64
     ensures { result ≡ nan }
 {
-    0.0 / 0.0
+    f64::NAN
 }
 
 pub fn is_nan(x: f64) -> bool
     ensures { result ≡ is_nan x }
 {
-    x != x
+    x.is_nan()
 }
 
 pub fn is_finite(x: f64) -> bool
     ensures { result ≡ finite x }
 {
-    let top = 1.0 / 0.0;
-    (x < top) & (x > -top)
+    x.is_finite()
 }
 
-// The f64 of a pattern.
+// The f64 of a pattern. Rust's `from_bits` requires that it is no NaN's.
 pub fn f64_of(bits: u64) -> f64
     ensures { result ≡ of_bits binary64 bits }
 {
     if 0x7ff0_0000_0000_0000 < bits % 0x8000_0000_0000_0000 {
-        0.0 / 0.0
+        f64::NAN
     } else {
         f64::from_bits(bits)
     }
 }
 
-// The pattern of an f64.
+// The pattern of an f64. Rust's `to_bits` requires that x is no NaN.
 pub fn bits_of(x: f64) -> u64
     ensures { result ≡ to_bits binary64 x }
 {
-    if x != x {
+    if x.is_nan() {
         0x7ff8_0000_0000_0000
     } else {
-        f64::to_bits(x)
+        x.to_bits()
     }
 }

@@ -1,26 +1,18 @@
--- A counted loop over a list, from its last element down, is a fold: one law for every length and every rule.
-use Prim.Native.Nat.{ℕ, suc, ◌-◌, ◌<◌, ◌≤◌}
-use mathlib.Core.Path.{◌≡◌, subst}
-use mathlib.Core.List.{List}
-use native.Mathlib.Omega.{arith}
-use lib.ListN.{length, get_or, drop}
-use lib.Seq.{drop-length, drop-cons}
+-- A chain over a list from its last element down is a fold from the end: one law for every length and every rule.
+use mathlib.Core.Path.{◌≡◌, refl, ap, ◌∙◌}
+use mathlib.Core.List.{List, [], ◌∷◌, reverse}
 use lib.Ieee.{Float}
+use Rattle.std.proofs.lemmas.Grind.{reverse_onto, fold-append}
+use Rattle.std.specs.List.{fold}
 use Rattle.meridian.specs.Meridian.{from_end}
 
-module _ {A : Type 0} (f : Float → A → A) (z : A) (l : List Float) where
-  pub from_none : from_end f z (drop (length l) l) ≡ z
+-- where `view` reads the chain's value from the definition's, and g does to the one what f does to the other
+module _ {A B : Type 0} (view : A → B) (f : Float → A → A) (g : B → Float → B) (alike : (c : Float) (a : A) → g (view a) c ≡ view (f c a)) (z : A) where
+  pub folded : (l : List Float) → fold g (view z) (reverse l) ≡ view (from_end f z l)
   unfolding from_end
-  from_none = rw drop-length
-
-  from_suc : (j : ℕ) (d : Float) → j < length l → from_end f z (drop j l) ≡ f (get_or l j d) (from_end f z (drop (suc j) l))
-  unfolding from_end
-  from_suc j d h = rw (drop-cons l j d h)
-
-  pub from_more : (k : ℕ) (d : Float) → 0 < k → k ≤ length l → from_end f z (drop (k - 1) l) ≡ f (get_or l (k - 1) d) (from_end f z (drop k l))
-  from_more k d p q =
-      let e : suc (k - 1) ≡ k = omega arith in
-      subst (λ (m : ℕ). from_end f z (drop (k - 1) l) ≡ f (get_or l (k - 1) d) (from_end f z (drop m l))) e (from_suc (k - 1) d (omega arith))
-
-  pub from_all : (k : ℕ) → k ≤ 0 → from_end f z (drop k l) ≡ from_end f z l
-  from_all k p = let e : k ≡ 0 = omega arith in rw e
+  folded [] = refl
+  folded (c ∷ cs) =
+      ap (fold g (view z)) (reverse_onto cs c [])
+      ∙ fold-append g (view z) (reverse cs) (c ∷ [])
+      ∙ ap (λ (b : B). g b c) (folded cs)
+      ∙ alike c (from_end f z cs)

@@ -1,3 +1,2 @@
 mod FromEnd
 pub mod AsInSource
-mod RowByRow

@@ -2,12 +2,10 @@
 #![tactic(auto)]
 
 ghost use Rattle.std.specs.Prelude.{◌≡◌};
-ghost use Rattle.meridian.specs.Meridian.{polyval, clenshaw, meridian_arc_coefficients, meridian_arc, inverse_meridian_arc};
+ghost use Rattle.meridian.specs.Meridian.{polyval, clenshaw, sine_coefficients, meridian_arc_coefficients, meridian_arc, inverse_meridian_arc};
 
 use root::root;
 use trigonometry::sin_cos;
-
-const MERIDIAN_ARC_ORDER: usize = 6;
 
 // The quarter meridian over π (a + b) / 4, in powers of n².
 const COEFF_RAD: [f64; 4] = [1.0, 1.0 / 4.0, 1.0 / 64.0, 1.0 / 256.0];
@@ -48,13 +46,7 @@ const COEFF_PHI_MU: [f64; 12] = [
 fn polyval(x: f64, p: &[f64]) -> f64
     ensures { result ≡ polyval x p.now }
 {
-    let mut y = 0.0;
-    let mut k = p.len();
-    while 0 < k {
-        k -= 1;
-        y = y * x + p[k];
-    }
-    y
+    p.iter().copied().rev().fold(0.0, |y, c| y * x + c)
 }
 
 // The sum of c[k] sin((2k + 2) ζ).
@@ -62,16 +54,31 @@ fn clenshaw(sin_zeta: f64, cos_zeta: f64, c: &[f64]) -> f64
     ensures { result ≡ clenshaw sin_zeta cos_zeta c.now }
 {
     let x = 2.0 * (cos_zeta - sin_zeta) * (cos_zeta + sin_zeta);
-    let mut u0 = 0.0;
-    let mut u1 = 0.0;
-    let mut k = c.len();
-    while 0 < k {
-        k -= 1;
-        let t = x * u0 - u1 + c[k];
-        u1 = u0;
-        u0 = t;
-    }
+    let (u0, _) = c
+        .iter()
+        .copied()
+        .rev()
+        .fold((0.0, 0.0), |(u0, u1), c| (x * u0 - u1 + c, u0));
     2.0 * sin_zeta * cos_zeta * u0
+}
+
+// The coefficients of sin 2ζ, sin 4ζ, .. sin 12ζ. Each is a row's polynomial in n², times a power of n.
+fn sine_coefficients(n: f64, table: [f64; 12]) -> [f64; 6]
+    ensures { result ≡ sine_coefficients n table }
+{
+    let n2 = n * n;
+    let n3 = n2 * n;
+    let n4 = n3 * n;
+    let n5 = n4 * n;
+    let n6 = n5 * n;
+    [
+        n * polyval(n2, &table[..3]),
+        n2 * polyval(n2, &table[3..6]),
+        n3 * polyval(n2, &table[6..8]),
+        n4 * polyval(n2, &table[8..10]),
+        n5 * polyval(n2, &table[10..11]),
+        n6 * polyval(n2, &table[11..]),
+    ]
 }
 
 // 01's thirteen numbers: one arc factor, six sine coefficients forward, six back.
@@ -80,22 +87,10 @@ pub fn meridian_arc_coefficients(es: f64) -> [f64; 13]
 {
     let one_minus_f = root(1.0 - es);
     let n = (1.0 - one_minus_f) / (1.0 + one_minus_f);
-    let n2 = n * n;
-    let rad = COEFF_RAD;
-    let mu_phi = COEFF_MU_PHI;
-    let phi_mu = COEFF_PHI_MU;
-    let mut en = [0.0; 2 * MERIDIAN_ARC_ORDER + 1];
-    en[0] = polyval(n2, &rad) / (1.0 + n);
-    let mut d = n;
-    let mut o = 0;
-    for l in 0..MERIDIAN_ARC_ORDER {
-        let e = o + (MERIDIAN_ARC_ORDER - l - 1) / 2 + 1;
-        en[l + 1] = d * polyval(n2, &mu_phi[o..e]);
-        en[l + 1 + MERIDIAN_ARC_ORDER] = d * polyval(n2, &phi_mu[o..e]);
-        d = d * n;
-        o = e;
-    }
-    en
+    let rad = polyval(n * n, &COEFF_RAD) / (1.0 + n);
+    let [f1, f2, f3, f4, f5, f6] = sine_coefficients(n, COEFF_MU_PHI);
+    let [b1, b2, b3, b4, b5, b6] = sine_coefficients(n, COEFF_PHI_MU);
+    [rad, f1, f2, f3, f4, f5, f6, b1, b2, b3, b4, b5, b6]
 }
 
 // The arc from the equator to the latitude φ, in units of the semi-major axis.

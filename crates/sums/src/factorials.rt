@@ -3,7 +3,6 @@ ghost use Rattle.sums.specs.Counting.{bit};
 ghost use Rattle.sums.specs.NestedSum.{nested};
 ghost use Rattle.sums.specs.Factorials.{inverse_factorial, factorial_terms};
 
-use crate::counting::bit;
 use crate::nested_sum::nested;
 
 // The f64 nearest to 1/n!, for n = 2 to 17, at n - 2.
@@ -37,7 +36,7 @@ fn inverse_factorial(n: u32) -> f64
 pub fn factorial_sum(odd: bool, w: f64) -> f64
     ensures { result ≡ nested w (factorial_terms (2 + bit odd)) }
 {
-    let n = 2 + bit(odd);
+    let n = 2 + u32::from(odd);
     let c = [
         -inverse_factorial(n),
         inverse_factorial(n + 2),

@@ -5,15 +5,9 @@ ghost use Rattle.sums.specs.NestedSum.{nested};
 pub fn nested(w: f64, c: &[f64]) -> f64
     ensures { result ≡ nested w c.now }
 {
-    let mut i = c.len();
-    if i == 0 {
-        return 0.0;
-    }
-    i -= 1;
-    let mut sum = c[i];
-    while 0 < i {
-        i -= 1;
-        sum = c[i] + w * sum;
-    }
-    sum
+    c.iter()
+        .copied()
+        .rev()
+        .reduce(|sum, x| x + w * sum)
+        .unwrap_or(0.0)
 }

@@ -3,7 +3,7 @@ ghost use Rattle.trigonometry.specs.Trigonometry.{within_turn, quarters, rest, s
 
 use crate::turns::rem_turn;
 use float::{FRAC_PI_2, FRAC_PI_4, LO, TURN, abs, is_finite, is_negative, nan, pick};
-use sums::{bit, factorial_sum};
+use sums::factorial_sum;
 
 fn within_turn(z: f64) -> f64
     ensures { result ≡ within_turn z }
@@ -14,10 +14,10 @@ fn within_turn(z: f64) -> f64
 fn quarters(z: f64) -> u32
     ensures { (result ≡ quarters z) × (result ≤ 4) }
 {
-    bit(z > FRAC_PI_4)
-        + bit(z > 3.0 * FRAC_PI_4)
-        + bit(z > 5.0 * FRAC_PI_4)
-        + bit(z > 7.0 * FRAC_PI_4)
+    u32::from(z > FRAC_PI_4)
+        + u32::from(z > 3.0 * FRAC_PI_4)
+        + u32::from(z > 5.0 * FRAC_PI_4)
+        + u32::from(z > 7.0 * FRAC_PI_4)
 }
 
 fn rest(z: f64, k: u32) -> f64
@@ -121,7 +121,7 @@ pub fn sin_cos(x: f64) -> SinCos
 {
     if is_finite(x) {
         let q = reduced(x);
-        turned(q.k, bit(is_negative(x)), q.r)
+        turned(q.k, u32::from(is_negative(x)), q.r)
     } else {
         let sin = nan();
         let cos = nan();

@@ -4,4 +4,4 @@ use Rattle.authalic.proofs.authalic_latitude.Goals as goal
 
 pub returns : goal.returns
 unfolding authalic_latitude
-returns c = rw (← c.clamp.ensures, ← c.asin.ensures)
+returns c = cc

@@ -4,4 +4,4 @@ use Rattle.authalic.proofs.authalic_series.Goals as goal
 
 pub returns : goal.returns
 unfolding authalic_series
-returns c = rw (← c.sin.ensures, ← c.sin-2.ensures, ← c.sin-3.ensures)
+returns c = cc

@@ -4,4 +4,4 @@ use Rattle.authalic.proofs.ellipsoidal_q.Goals as goal
 
 pub returns : goal.returns
 unfolding ellipsoidal_q
-returns c = rw (← c.root-e.ensures, ← c.sin-sin_lat.ensures, ← c.ln.ensures)
+returns c = cc

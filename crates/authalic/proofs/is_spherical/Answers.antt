@@ -4,4 +4,4 @@ use Rattle.authalic.proofs.is_spherical.Goals as goal
 
 pub returns : goal.returns
 unfolding spherical
-returns c = rw (← c.abs.ensures)
+returns c = cc

@@ -1,17 +1,16 @@
--- The sum so far is the fold over the coefficients from k on.
-use mathlib.Core.Path.{sym, ◌∙◌}
-use native.Mathlib.Omega.{arith}
-use Rattle.meridian.specs.Meridian.{polyval}
-use Rattle.meridian.proofs.FromEnd.{from_none, from_more, from_all}
+-- The chain folds the coefficients from the last down.
+use mathlib.Core.Path.{◌≡◌, refl, ◌∙◌}
+use mathlib.Core.List.{reverse}
+use borrow.Author.Rules.{rules}
+use lib.Ieee.{Float}
+use Rattle.std.specs.List.{fold}
+use Rattle.float.specs.Constants.{+0}
+use Rattle.meridian.specs.Meridian.{polyval, horner}
+use Rattle.meridian.proofs.FromEnd.{folded}
 use Rattle.meridian.proofs.polyval.Goals as goal
-
-pub loop-k-init : goal.loop-k-init
-unfolding polyval
-loop-k-init c = (omega arith, simp from_none)
-
-pub loop-k-preserved : goal.loop-k-preserved
-loop-k-preserved c = (omega arith, rw c.loop-k.invariant.1 (sym (from_more _ _ _ _ _ c.loop-k-test.true c.loop-k.invariant.0)))
 
 pub returns : goal.returns
 unfolding polyval
-returns c = c.loop-k.invariant.1 ∙ from_all _ _ _ _ c.loop-k-test.false
+returns c = let a = c.args in
+    let e : c.fold.result ≡ fold (λ (y k : Float). horner a.x k y) +0 (reverse a.p.now) = search rules in
+    e ∙ folded (λ (y : Float). y) (horner a.x) (λ (y k : Float). horner a.x k y) (λ k y. refl) +0 a.p.now

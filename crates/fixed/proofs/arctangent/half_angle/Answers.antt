@@ -4,4 +4,4 @@ use Rattle.fixed.proofs.arctangent.half_angle.Goals as goal
 
 pub returns : goal.returns
 unfolding half_angle
-returns c = rw (← c.root.ensures)
+returns c = cc

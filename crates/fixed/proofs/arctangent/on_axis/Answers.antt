@@ -4,4 +4,4 @@ use Rattle.fixed.proofs.arctangent.on_axis.Goals as goal
 
 pub returns : goal.returns
 unfolding on_axis
-returns c = rw (← c.is_finite.ensures, ← c.is_finite-2.ensures)
+returns c = cc

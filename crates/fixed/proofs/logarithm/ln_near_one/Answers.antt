@@ -4,4 +4,4 @@ use Rattle.fixed.proofs.logarithm.ln_near_one.Goals as goal
 
 pub returns : goal.returns
 unfolding ln_near_one
-returns c = rw (← c.odd_sum.ensures)
+returns c = cc

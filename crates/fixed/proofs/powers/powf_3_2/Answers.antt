@@ -4,4 +4,4 @@ use Rattle.fixed.proofs.powers.powf_3_2.Goals as goal
 
 pub returns : goal.returns
 unfolding powf_3_2
-returns c = rw (← c.root.ensures)
+returns c = cc

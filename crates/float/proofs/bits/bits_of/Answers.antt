@@ -1,12 +1,9 @@
--- What differs from itself is the NaN, whose pattern is the stated one; any other value has its own.
+-- The NaN's pattern is the stated one; any other value has its own.
+use mathlib.Core.Path.{sym, ◌∙◌}
 use lib.Ieee.{to_bits}
-use Rattle.float.proofs.Patterns.{is_the_nan, is_number}
+use Rattle.float.proofs.Patterns.{is_the_nan}
 use Rattle.float.proofs.bits.bits_of.Goals as goal
 
-pub float_to_bits-result : goal.float_to_bits-result
+pub returns-then-is_nan : goal.returns-then-is_nan
 unfolding to_bits
-float_to_bits-result c = is_number _ c.if-x.false
-
-pub returns-then-x : goal.returns-then-x
-unfolding to_bits
-returns-then-x c = rw (is_the_nan _ c.if-x.true)
+returns-then-is_nan c = rw (is_the_nan _ (sym c.is_nan.ensures.value ∙ c.if-is_nan.true))

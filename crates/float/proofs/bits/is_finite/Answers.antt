@@ -1,6 +1,15 @@
--- What is finite lies strictly between the infinities, 1 / 0 and its opposite.
-use Rattle.float.proofs.Patterns.{between_infinities}
+-- Rust's `is_finite`, by cases.
+use mathlib.Core.Path.{◌≡◌, refl, ◌∙◌}
+use lib.Ieee.{Float, nan, inf, fin}
+use lib.Ieee.Scale.{finite}
+use Rattle.std.specs.Float.{float_is_finite}
 use Rattle.float.proofs.bits.is_finite.Goals as goal
 
+same : (x : Float) → float_is_finite x ≡ finite x
+unfolding float_is_finite
+same nan = refl
+same (inf s) = refl
+same (fin s m e) = refl
+
 pub returns : goal.returns
-returns c = between_infinities c.args.x
+returns c = c.is_finite.ensures.value ∙ same c.args.x

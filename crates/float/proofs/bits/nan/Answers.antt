@@ -1,8 +1,8 @@
--- 0 / 0 computes to the NaN.
+-- The constant's pattern is read as the NaN.
 use mathlib.Core.Path.{refl}
-use lib.Ieee.{div, of_bits}
+use lib.Ieee.{of_bits}
 use Rattle.float.proofs.bits.nan.Goals as goal
 
 pub returns : goal.returns
-unfolding div of_bits
+unfolding of_bits
 returns c = refl

@@ -1,16 +1,18 @@
--- The NaN apart, the sign bit decides.
-use Rattle.float.specs.Sign.{signum}
-use Rattle.float.proofs.Patterns.{differs}
+-- Rust's `signum`, by cases.
+use mathlib.Core.Path.{◌≡◌, refl, ◌∙◌}
+use mathlib.Core.Bool.{true, false}
+use lib.Ieee.{Float, nan, inf, fin, neg, is_nan, of_bits}
+use Rattle.std.specs.Float.{float_signum}
+use Rattle.float.specs.Sign.{negative, signum}
 use Rattle.float.proofs.sign.signum.Goals as goal
 
-pub returns-then-x : goal.returns-then-x
-unfolding signum
-returns-then-x c = rw (← differs c.args.x) (simp c.if-x.true)
+same : (x : Float) → float_signum x ≡ signum x
+unfolding float_signum signum negative neg is_nan of_bits
+same nan = refl
+same (inf true) = refl
+same (inf false) = refl
+same (fin true m e) = refl
+same (fin false m e) = refl
 
-pub returns-then-is_negative : goal.returns-then-is_negative
-unfolding signum
-returns-then-is_negative c = rw (← differs c.args.x, ← c.is_negative.ensures) (simp (c.if-x.false, c.if-is_negative.true))
-
-pub returns-else-is_negative : goal.returns-else-is_negative
-unfolding signum
-returns-else-is_negative c = rw (← differs c.args.x, ← c.is_negative.ensures) (simp (c.if-x.false, c.if-is_negative.false))
+pub returns : goal.returns
+returns c = c.signum.ensures ∙ same c.args.x

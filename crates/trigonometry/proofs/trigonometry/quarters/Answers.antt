@@ -1,8 +1,9 @@
 -- Four tests, counted.
 use native.Mathlib.Omega.{arith}
+use Rattle.sums.proofs.Counting.{bit_is, bit_most}
 use Rattle.trigonometry.specs.Trigonometry.{quarters}
 use Rattle.trigonometry.proofs.trigonometry.quarters.Goals as goal
 
 pub returns : goal.returns
 unfolding quarters
-returns c = (rw (← c.bit.ensures.0, ← c.bit-2.ensures.0, ← c.bit-3.ensures.0, ← c.bit-4.ensures.0), omega arith)
+returns c = (cc (bit_is _), omega (arith, bit_most))

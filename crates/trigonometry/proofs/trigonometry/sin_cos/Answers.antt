@@ -1,5 +1,6 @@
 -- One reduction for both; where each stands is told by the quarter turns, and half a turn more is the opposite number.
 use mathlib.Core.Path.{◌∙◌}
+use Rattle.sums.proofs.Counting.{bit_is}
 use Rattle.trigonometry.specs.Trigonometry.{sine, cosine, quarters_of, rest_of}
 use Rattle.trigonometry.proofs.Quarters.{quarter_more, half_more}
 use Rattle.trigonometry.proofs.trigonometry.sin_cos.Goals as goal
@@ -9,7 +10,7 @@ unfolding sine cosine
 returns-then-is_finite c = let x = c.args.x in
     rw (← c.is_finite.ensures, c.if-is_finite.true) (
       c.turned.ensures.0
-          ∙ rw (c.bit.ensures.0, ← c.is_negative.ensures, c.reduced-q.ensures.0, c.reduced-q.ensures.1) (half_more c.is_negative.result (quarters_of x) (rest_of x)),
+          ∙ rw (c.from.ensures, bit_is, ← c.is_negative.ensures, c.reduced-q.ensures.0, c.reduced-q.ensures.1) (half_more c.is_negative.result (quarters_of x) (rest_of x)),
       c.turned.ensures.1 ∙ rw (c.reduced-q.ensures.0, c.reduced-q.ensures.1) (quarter_more (quarters_of x) (rest_of x)),
     )
 

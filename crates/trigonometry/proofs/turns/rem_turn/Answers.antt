@@ -12,10 +12,6 @@ far_remainder-requires c =
     let p = far.signed c.args.x c.well_formed.0.1 (sym c.is_finite.ensures ∙ c.if-is_finite.true) (sym c.is_negative.ensures ∙ c.if-is_negative.true) in
     record { bounded = far.turned_bounded p; plus = far.turned_plus p }
 
-pub far_remainder-requires-else-is_negative : goal.far_remainder-requires-else-is_negative
-far_remainder-requires-else-is_negative c =
-    record { bounded = sym c.is_finite.ensures ∙ c.if-is_finite.true; plus = sym c.is_negative.ensures ∙ c.if-is_negative.false }
-
 pub returns-then-is_negative : goal.returns-then-is_negative
 returns-then-is_negative c =
     let p = far.signed c.args.x c.well_formed.0.1 (sym c.is_finite.ensures ∙ c.if-is_finite.true) (sym c.is_negative.ensures ∙ c.if-is_negative.true) in
