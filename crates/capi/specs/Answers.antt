@@ -1,7 +1,8 @@
 -- What documents 01 and 02 say of an answer, of a number and two results that are handed out.
 use Rattle.std.specs.Prelude.{◌≡◌, ℕ, Float}
-use Rattle.projection.specs.declared.Answer.{Answer}
-use Rattle.projection.specs.Results.{number, first_result, second_result}
+use Rattle.refusals.specs.Refusals.{number}
+use Rattle.projection.specs.Answer.{Answer}
+use Rattle.projection.specs.Results.{first_result, second_result}
 use Rattle.ring.specs.Results as ring
 use Rattle.ring.specs.declared.RingArea.{RingArea}
 

@@ -4,11 +4,11 @@ ghost use Rattle.kinds.specs.Kinds.{built_number};
 ghost use Rattle.packing.specs.Packing.{unpacked};
 ghost use Rattle.capi.specs.Building.{build, build_in_area};
 
-use kinds::{Projection, built_number};
-use letters::{Settings, is_kind, kind_of};
+use kinds::Projection;
+use letters::{is_kind, kind_of};
 use packing::packed;
-use projection::Area;
-use refusals::LINE_FORM;
+use projection::{Area, Settings};
+use refusals::{Refusal, number};
 
 // The settings stand in the order of the sheet: a, f, lon0, lat0, lat1, lat2, false easting, false northing.
 fn build(kind: u8, s: &[f64; 8]) -> Projection
@@ -25,7 +25,7 @@ fn build(kind: u8, s: &[f64; 8]) -> Projection
         };
         kinds::build(kind_of(kind), s[0], s[1], settings)
     } else {
-        kinds::refused(LINE_FORM)
+        kinds::refused(Refusal::LineForm)
     }
 }
 
@@ -36,7 +36,7 @@ pub extern "C" fn lenthuc_build(kind: u8, settings: &[f64; 8], projection: &mut 
 {
     let built = build(kind, settings);
     *projection = packed(built);
-    built_number(built)
+    number(built.built)
 }
 
 // The same with an area of use: west, east, south, north.
@@ -57,5 +57,5 @@ pub extern "C" fn lenthuc_build_in_area(
     };
     let built = build(kind, settings).with_area(edges);
     *projection = packed(built);
-    built_number(built)
+    number(built.built)
 }

@@ -1,6 +1,7 @@
 // A column of points by one projection.
 ghost use Rattle.std.specs.Prelude.{◌≡◌, map, length};
-ghost use Rattle.projection.specs.Results.{number, first_result, second_result};
+ghost use Rattle.refusals.specs.Refusals.{number};
+ghost use Rattle.projection.specs.Results.{first_result, second_result};
 ghost use Rattle.projection.specs.declared.Frame.TheVariants.{Held};
 ghost use Rattle.letters.specs.declared.Way.TheVariants.{Forward, Inverse};
 ghost use Rattle.kinds.specs.Kinds.{answer, answer_in};
@@ -11,8 +12,8 @@ ghost use Rattle.capi.specs.OnTheMap.{ColumnOnTheMap};
 use kinds::{Projection, answer_in};
 use letters::Way;
 use packing::unpacked;
-use projection::{Frame, first_result, number, second_result};
-use refusals::UNEQUAL_LENGTHS;
+use projection::{Frame, both_results};
+use refusals::{Refusal, number};
 
 fn fill(
     frame: Frame,
@@ -30,8 +31,7 @@ fn fill(
     let mut i = 0;
     while i < u.len() {
         let answer = answer_in(frame, way, projection, u[i], v[i]);
-        p[i] = first_result(answer);
-        q[i] = second_result(answer);
+        (p[i], q[i]) = both_results(answer);
         numbers[i] = number(answer);
         i += 1;
     }
@@ -55,7 +55,7 @@ pub(crate) fn column(
         fill(frame, way, projection, u, v, p, q, numbers);
         0
     } else {
-        UNEQUAL_LENGTHS
+        Refusal::UnequalLengths.number()
     }
 }
 

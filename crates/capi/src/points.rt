@@ -6,7 +6,8 @@ ghost use Rattle.packing.specs.Packing.{unpacked};
 ghost use Rattle.capi.specs.Answers.{Says};
 
 use packing::unpacked;
-use projection::{first_result, number, second_result};
+use projection::both_results;
+use refusals::number;
 
 #[unsafe(no_mangle)]
 pub extern "C" fn lenthuc_forward(
@@ -19,8 +20,7 @@ pub extern "C" fn lenthuc_forward(
     ensures { Says (forward (unpacked projection.now) lon lat) result easting.new northing.new }
 {
     let answer = unpacked(projection).forward(lon, lat);
-    *easting = first_result(answer);
-    *northing = second_result(answer);
+    (*easting, *northing) = both_results(answer);
     number(answer)
 }
 
@@ -36,7 +36,6 @@ pub extern "C" fn lenthuc_inverse(
     ensures { Says (inverse (unpacked projection.now) easting northing) result lon.new lat.new × OnTheMap (formula (unpacked projection.now) easting northing) (inverse (unpacked projection.now) easting northing) × InArea (unpacked projection.now).area (inverse (unpacked projection.now) easting northing) }
 {
     let answer = unpacked(projection).inverse(easting, northing);
-    *lon = first_result(answer);
-    *lat = second_result(answer);
+    (*lon, *lat) = both_results(answer);
     number(answer)
 }

@@ -9,10 +9,10 @@ ghost use Rattle.capi.specs.OnTheMap.{ColumnOnTheMap};
 ghost use Rattle.capi.specs.Second.{SaysSecond, SecondColumn};
 
 use crate::columns::column;
-use kinds::SecondInverse;
 use letters::Way;
 use packing::unpacked;
-use projection::{Frame, first_result, number, second_result};
+use projection::{Frame, both_results};
+use refusals::number;
 
 // Whatever is answered lies on the map and inside the area of use, of any numbers.
 #[unsafe(no_mangle)]
@@ -27,13 +27,12 @@ pub extern "C" fn lenthuc_inverse_on_map(
     ensures { SaysSecond (inverse_on_map (unpacked projection.now) easting northing) lon.old lat.old refusal.old result lon.new lat.new refusal.new × SecondOnTheMap (unpacked projection.now) easting northing (inverse_on_map (unpacked projection.now) easting northing) }
 {
     match unpacked(projection).inverse_on_map(easting, northing) {
-        SecondInverse::Gives(answer) => {
-            *lon = first_result(answer);
-            *lat = second_result(answer);
+        Some(answer) => {
+            (*lon, *lat) = both_results(answer);
             *refusal = number(answer);
             true
         }
-        SecondInverse::Missing => false,
+        None => false,
     }
 }
 
