@@ -3,7 +3,7 @@ use Rattle.std.specs.Prelude.{Bool, true, false, cond}
 use Rattle.float.specs.Constants.{+0}
 use Rattle.letters.specs.declared.Kind.{Kind}
 use Rattle.letters.specs.declared.Kind.TheVariants.{L, S, A, E, C, P, G}
-use Rattle.letters.specs.declared.Settings.{Settings}
+use Rattle.projection.specs.declared.Settings.{Settings}
 
 -- the origin's latitude: all but E
 unfoldable pub uses_lat0 : Kind → Bool

@@ -1,4 +1,4 @@
-// Document 01's words for a point: its way, its kind by the sheet's letter, and the settings of a projection.
+// Document 01's words for a point: its way, its kind by the sheet's letter, and which settings of a projection a kind uses.
 #![tactic(auto)]
 
 mod letters;
@@ -23,15 +23,4 @@ pub enum Kind {
     C,
     P,
     G,
-}
-
-// The settings of a projection.
-#[derive(Clone, Copy)]
-pub struct Settings {
-    pub lon0: f64,
-    pub lat0: f64,
-    pub lat1: f64,
-    pub lat2: f64,
-    pub false_easting: f64,
-    pub false_northing: f64,
 }

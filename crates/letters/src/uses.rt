@@ -2,9 +2,11 @@
 ghost use Rattle.std.specs.Prelude.{◌≡◌};
 ghost use Rattle.letters.specs.Uses.{uses_lat0, uses_parallels, used};
 
-use crate::{Kind, Settings};
+use crate::Kind;
 use float::pick;
+use projection::Settings;
 
+#[tactic(auto, unfolding(crate::specs::Uses::uses_lat0))]
 fn uses_lat0(kind: Kind) -> bool
     ensures { result ≡ uses_lat0 kind }
 {
@@ -19,6 +21,7 @@ fn uses_lat0(kind: Kind) -> bool
     }
 }
 
+#[tactic(auto, unfolding(crate::specs::Uses::uses_parallels))]
 fn uses_parallels(kind: Kind) -> bool
     ensures { result ≡ uses_parallels kind }
 {
@@ -34,6 +37,7 @@ fn uses_parallels(kind: Kind) -> bool
 }
 
 // The settings, with +0 for those that the kind does not use.
+#[tactic(auto, unfolding(crate::specs::Uses::used))]
 pub fn used(kind: Kind, settings: Settings) -> Settings
     ensures { result ≡ used kind settings }
 {
