@@ -1,4 +1,2 @@
 pub mod AsInSource
-pub mod Clicks
 pub mod OffTheMap
-pub mod NeverZero

@@ -4,7 +4,7 @@ use mathlib.Core.Bool.{Bool, true, false, not, cond, ◌&&◌}
 use lib.Ieee.{Float}
 use Rattle.float.specs.Operators.{◌⊖◌, ◌≺◌}
 use Rattle.projection.specs.MapEdge.{beyond_edge}
-use Rattle.projection.specs.declared.Answer.{Answer}
+use Rattle.projection.specs.Answer.{Answer}
 use Rattle.projection.specs.declared.Frame.TheVariants.{Held, Refused}
 use Rattle.projection.proofs.OffTheMap.{off_if, guard_off, finish_off, NeverOff, pair_never_off, cond_never_off, guard_never_off, finish_never_off}
 use Rattle.lambert_azimuthal_equal_area.specs.LambertAzimuthalEqualArea.{RHO_EPSILON, EDGE}

@@ -1,5 +1,6 @@
 -- From the map to a place: the first inverse, which holds a click in the frame to the map's edge, and the second (document 02, Q-6), which refuses it.
-use Rattle.std.specs.Prelude.{cond, Float}
+use Rattle.std.specs.Prelude.{cond, Float, Ok, Err}
+use Rattle.std.specs.Result.{result_and}
 use Rattle.std.specs.Float.Ieee.{neg}
 use Rattle.float.specs.Operators.{◌⊕◌, ◌⊖◌, ◌⊗◌, ◌⊘◌, ◌≺◌}
 use Rattle.float.specs.Constants.{one, two}
@@ -8,13 +9,12 @@ use Rattle.float.specs.Limits.{clamp}
 use Rattle.root.specs.Plane.{distance}
 use Rattle.trigonometry.specs.Trigonometry.{sine, cosine}
 use Rattle.fixed.specs.Arctangent.{arcsine, atan2}
-use Rattle.refusals.specs.Refusals.{OFF_THE_MAP}
+use Rattle.refusals.specs.declared.Refusal.TheVariants.{OffTheMap}
 use Rattle.authalic.specs.Authalic.{geodetic_from_authalic}
-use Rattle.projection.specs.Checks.{guard, validate_projected}
+use Rattle.projection.specs.Checks.{validate_projected}
 use Rattle.projection.specs.Ends.{finish}
 use Rattle.projection.specs.MapEdge.{beyond_edge}
-use Rattle.projection.specs.declared.Answer.{Answer}
-use Rattle.projection.specs.declared.Answer.TheVariants.{Pair, Refused}
+use Rattle.projection.specs.Answer.{Answer}
 use Rattle.projection.specs.declared.Frame.{Frame}
 use Rattle.lambert_azimuthal_equal_area.specs.LambertAzimuthalEqualArea.{RHO_EPSILON, EDGE}
 use Rattle.lambert_azimuthal_equal_area.specs.declared.Aspect.{Aspect}
@@ -49,7 +49,7 @@ judge frame rho quotient = cond (rho ≺ RHO_EPSILON) AtCentre (cond (beyond_edg
 -- what a click gets, of the centre and of the place that the formula has for it
 unfoldable pub judged : Click → Answer → Answer → Answer
 judged AtCentre centre place = centre
-judged InFrame centre place = Refused OFF_THE_MAP
+judged InFrame centre place = Err OffTheMap
 judged OnMap centre place = place
 
 -- ---- the place
@@ -70,13 +70,13 @@ spherical_formula frame p dx dy =
     let c = angular_distance half in
     let lat = bounded_arcsine (cosine c ⊗ p.sin_lat0 ⊕ dy ⊗ sine c ⊗ p.cos_lat0 ⊘ rho) in
     let d_lon = atan2 (dx ⊗ sine c) (rho ⊗ p.cos_lat0 ⊗ cosine c ⊖ dy ⊗ p.sin_lat0 ⊗ sine c) in
-    judged (judge frame rho half) (Pair p.lon0 p.lat0) (Pair (p.lon0 ⊕ d_lon) lat)
+    judged (judge frame rho half) (Ok (p.lon0, p.lat0)) (Ok (p.lon0 ⊕ d_lon, lat))
 
 -- L about a pole, from q / q at the pole, whose size is judged, and λ - λ0. At the centre the source takes lat0 for β; Snyder has φ1 for φ.
 unfoldable pub polar_place : Frame → LambertAzimuthalEqualArea → Float → Float → Float → Answer
 polar_place frame p rho q_over_q_p d_lon =
-    judged (judge frame rho (abs q_over_q_p)) (Pair p.lon0 (geodetic_from_authalic p.lat0 p.e2))
-    (Pair (p.lon0 ⊕ d_lon) (geodetic_from_authalic (bounded_arcsine q_over_q_p) p.e2))
+    judged (judge frame rho (abs q_over_q_p)) (Ok (p.lon0, geodetic_from_authalic p.lat0 p.e2))
+    (Ok (p.lon0 ⊕ d_lon, geodetic_from_authalic (bounded_arcsine q_over_q_p) p.e2))
 
 -- 20-16
 unfoldable pub north_polar_formula : Frame → LambertAzimuthalEqualArea → Float → Float → Answer
@@ -98,7 +98,7 @@ oblique_formula frame p dx dy =
     let c = angular_distance half in
     let beta = bounded_arcsine (cosine c ⊗ p.sin_beta0 ⊕ p.d ⊗ dy ⊗ sine c ⊗ p.cos_beta0 ⊘ rho) in
     let d_lon = atan2 (dx ⊗ sine c) (p.d ⊗ rho ⊗ p.cos_beta0 ⊗ cosine c ⊖ p.d ⊗ p.d ⊗ dy ⊗ p.sin_beta0 ⊗ sine c) in
-    judged (judge frame rho half) (Pair p.lon0 p.lat0) (Pair (p.lon0 ⊕ d_lon) (geodetic_from_authalic beta p.e2))
+    judged (judge frame rho half) (Ok (p.lon0, p.lat0)) (Ok (p.lon0 ⊕ d_lon, geodetic_from_authalic beta p.e2))
 
 -- L by its aspect
 unfoldable pub ellipsoidal_formula : Aspect → Frame → LambertAzimuthalEqualArea → Float → Float → Answer
@@ -111,7 +111,7 @@ place frame p dx dy = cond p.spherical (spherical_formula frame p dx dy) (ellips
 
 -- 20, then 30, or the place with 01's "formula's longitude"
 unfoldable pub formula : Frame → LambertAzimuthalEqualArea → Float → Float → Answer
-formula frame p x y = guard (validate_projected x y) Refused (place frame p (x ⊖ p.false_easting) (y ⊖ p.false_northing))
+formula frame p x y = result_and (validate_projected x y) (place frame p (x ⊖ p.false_easting) (y ⊖ p.false_northing))
 
 unfoldable pub inverse : Frame → LambertAzimuthalEqualArea → Float → Float → Answer
 inverse frame p x y = finish (formula frame p x y)

@@ -1,5 +1,6 @@
 -- Lambert Azimuthal Equal Area (Snyder chapter 24; IOGP method 9820, and 1027 for S): its settings, the numbers made of them, and when they are refused.
-use Rattle.std.specs.Prelude.{◌≡◌, refl, Bool, true, false, cond, ◌&&◌, [], ◌∷◌, ℕ, ◌^◌, Float}
+use Rattle.std.specs.Prelude.{◌≡◌, refl, Bool, true, false, cond, ◌&&◌, [], ◌∷◌, ◌^◌, Float, Result, Ok, Err}
+use Rattle.std.specs.Result.{result_and}
 use Rattle.std.specs.Float.Ieee.{of_bits, round, add}
 use Rattle.std.specs.Float.Ieee.Scale.{finite}
 use Rattle.float.specs.Operators.{◌⊕◌, ◌⊖◌, ◌⊗◌, ◌⊘◌, ◌≺◌, f64}
@@ -9,15 +10,15 @@ use Rattle.root.specs.Root.{root}
 use Rattle.trigonometry.specs.Trigonometry.{sine, cosine}
 use Rattle.ellipsoid.specs.Ellipsoid as Ellipsoids
 use Rattle.ellipsoid.specs.declared.Ellipsoid.{Ellipsoid}
-use Rattle.refusals.specs.Refusals.{POLAR_Q, ORIGIN_NEAR_POLE, ORIGIN_SCALE}
+use Rattle.refusals.specs.declared.Refusal.{Refusal}
+use Rattle.refusals.specs.declared.Refusal.TheVariants.{PolarQ, OriginNearPole, OriginScale}
 use Rattle.authalic.specs.Authalic.{authalic_q, authalic_latitude}
-use Rattle.projection.specs.Checks.{or_else, guard, validate_settings}
+use Rattle.projection.specs.Checks.{Check, passed, validate_settings}
 use Rattle.projection.specs.MapEdge.{EDGE_EPSILON}
+use Rattle.projection.specs.declared.Settings.{Settings}
 use Rattle.lambert_azimuthal_equal_area.specs.declared.Aspect.{Aspect}
 use Rattle.lambert_azimuthal_equal_area.specs.declared.Aspect.TheVariants.{Oblique, NorthPolar, SouthPolar}
 use Rattle.lambert_azimuthal_equal_area.specs.declared.LambertAzimuthalEqualArea.{LambertAzimuthalEqualArea}
-use Rattle.lambert_azimuthal_equal_area.specs.declared.BuiltLambertAzimuthalEqualArea.{BuiltLambertAzimuthalEqualArea}
-use Rattle.lambert_azimuthal_equal_area.specs.declared.BuiltLambertAzimuthalEqualArea.TheVariants.{Built, Refused}
 
 -- a distance from a pole in radians, and the size of a cosine
 abbrev pub POLAR_EPSILON : Float
@@ -49,10 +50,11 @@ scale SouthPolar a e2 sin_lat0 cos_lat0 rq cos_beta0 = one
 
 -- The settings with the numbers made of them: q at the pole (3-12), the radius Rq of the sphere with the ellipsoid's area (3-13), which is S's radius too,
 -- and the authalic latitude β0 of the origin (3-11).
-unfoldable pub derived : Ellipsoid → Float → Float → Float → Float → Bool → LambertAzimuthalEqualArea
-derived ellipsoid lon0 lat0 false_easting false_northing spherical =
+unfoldable pub derived : Ellipsoid → Settings → Bool → LambertAzimuthalEqualArea
+derived ellipsoid settings spherical =
     let a = ellipsoid.a in
     let e2 = Ellipsoids.e2 ellipsoid in
+    let lat0 = settings.lat0 in
     let q_p = authalic_q FRAC_PI_2 e2 in
     let rq = a ⊗ root (q_p ⊘ two) in
     let beta0 = authalic_latitude (authalic_q lat0 e2) q_p in
@@ -62,7 +64,7 @@ derived ellipsoid lon0 lat0 false_easting false_northing spherical =
       e2 = e2;
       spherical = spherical;
       spherical_radius = rq;
-      lon0 = lon0;
+      lon0 = settings.lon0;
       lat0 = lat0;
       q_p = q_p;
       rq = rq;
@@ -71,39 +73,37 @@ derived ellipsoid lon0 lat0 false_easting false_northing spherical =
       sin_beta0 = sine beta0;
       cos_beta0 = cosine beta0;
       d = scale aspect a e2 (sine lat0) (cosine lat0) rq (cosine beta0);
-      false_easting = false_easting;
-      false_northing = false_northing;
+      false_easting = settings.false_easting;
+      false_northing = settings.false_northing;
       aspect = aspect;
     }
 
--- 0 where the value is finite and above 0, else the number
-unfoldable pub validate_positive : Float → ℕ → ℕ
-validate_positive value number = cond (finite value && +0 ≺ value) 0 number
+-- passes where the value is finite and above 0
+unfoldable pub validate_positive : Float → Refusal → Check
+validate_positive value refusal = cond (finite value && +0 ≺ value) passed (Err refusal)
 
--- 13 if the origin is not polar and its β0 is too near a pole, else 0
-unfoldable pub validate_origin : Aspect → Float → ℕ
-validate_origin Oblique cos_beta0 = cond (abs cos_beta0 ≺ POLAR_EPSILON) ORIGIN_NEAR_POLE 0
-validate_origin NorthPolar cos_beta0 = 0
-validate_origin SouthPolar cos_beta0 = 0
+-- 13 if the origin is not polar and its β0 is too near a pole
+unfoldable pub validate_origin : Aspect → Float → Check
+validate_origin Oblique cos_beta0 = cond (abs cos_beta0 ≺ POLAR_EPSILON) (Err OriginNearPole) passed
+validate_origin NorthPolar cos_beta0 = passed
+validate_origin SouthPolar cos_beta0 = passed
 
--- what is wrong with the numbers made of the settings: 12, 13, 14, or 0
-unfoldable pub fault : LambertAzimuthalEqualArea → ℕ
+-- what is wrong with the numbers made of the settings: 12, 13 or 14
+unfoldable pub fault : LambertAzimuthalEqualArea → Check
 fault p =
-    or_else (validate_positive p.q_p POLAR_Q)
-    (or_else (validate_origin p.aspect p.cos_beta0) (validate_positive p.d ORIGIN_SCALE))
+    result_and (validate_positive p.q_p PolarQ)
+    (result_and (validate_origin p.aspect p.cos_beta0) (validate_positive p.d OriginScale))
 
-unfoldable pub checked : LambertAzimuthalEqualArea → BuiltLambertAzimuthalEqualArea
-checked p = guard (fault p) Refused (Built p)
+unfoldable pub checked : LambertAzimuthalEqualArea → Result LambertAzimuthalEqualArea Refusal
+checked p = result_and (fault p) (Ok p)
 
 -- 6 to 10, then 12 to 14, or the projection. specs/AsInSource has the source's words.
-unfoldable pub built : Ellipsoid → Float → Float → Float → Float → Bool → BuiltLambertAzimuthalEqualArea
-built ellipsoid lon0 lat0 false_easting false_northing spherical =
-    guard (validate_settings lon0 lat0 +0 +0 false_easting false_northing) Refused
-    (checked (derived ellipsoid lon0 lat0 false_easting false_northing spherical))
+unfoldable pub built : Ellipsoid → Settings → Bool → Result LambertAzimuthalEqualArea Refusal
+built ellipsoid settings spherical = result_and (validate_settings settings) (checked (derived ellipsoid settings spherical))
 
-unfoldable pub new : Ellipsoid → Float → Float → Float → Float → BuiltLambertAzimuthalEqualArea
-new ellipsoid lon0 lat0 false_easting false_northing = built ellipsoid lon0 lat0 false_easting false_northing false
+unfoldable pub new : Ellipsoid → Settings → Result LambertAzimuthalEqualArea Refusal
+new ellipsoid settings = built ellipsoid settings false
 
 -- S: on the sphere of radius Rq, about lat0 itself
-unfoldable pub new_spherical : Ellipsoid → Float → Float → Float → Float → BuiltLambertAzimuthalEqualArea
-new_spherical ellipsoid lon0 lat0 false_easting false_northing = built ellipsoid lon0 lat0 false_easting false_northing true
+unfoldable pub new_spherical : Ellipsoid → Settings → Result LambertAzimuthalEqualArea Refusal
+new_spherical ellipsoid settings = built ellipsoid settings true

@@ -17,6 +17,7 @@ pub(crate) enum Click {
 }
 
 // The centre rule comes before the edge's. The quotient is what the formula takes the arcsine of.
+#[tactic(auto, unfolding(crate::specs::Inverse::judge))]
 pub(crate) fn judge(frame: Frame, rho: f64, quotient: f64) -> Click
     ensures { result ≡ judge frame rho quotient }
 {
@@ -37,6 +38,7 @@ pub(crate) fn half_sine(rho: f64, radius: f64) -> f64
 }
 
 // The arcsine of x, held to [-1, 1] first.
+#[tactic(auto, unfolding(crate::specs::Inverse::bounded_arcsine))]
 pub(crate) fn bounded_arcsine(x: f64) -> f64
     ensures { result ≡ bounded_arcsine x }
 {
@@ -44,6 +46,7 @@ pub(crate) fn bounded_arcsine(x: f64) -> f64
 }
 
 // The angle c, from the sine of its half.
+#[tactic(auto, unfolding(crate::specs::Inverse::angular_distance))]
 pub(crate) fn angular_distance(half: f64) -> f64
     ensures { result ≡ angular_distance half }
 {
@@ -52,6 +55,7 @@ pub(crate) fn angular_distance(half: f64) -> f64
 
 impl LambertAzimuthalEqualArea {
     // The first inverse, or the second, by what it does with a click in the frame.
+    #[tactic(auto, unfolding(crate::specs::Inverse::inverse))]
     pub fn inverse(self, frame: Frame, x: f64, y: f64) -> Answer
         ensures { (result ≡ inverse frame self x y) × OnTheMap (formula frame self x y) result }
     {
@@ -59,25 +63,22 @@ impl LambertAzimuthalEqualArea {
     }
 
     // The place, its longitude not normalised yet.
+    #[tactic(auto, unfolding(crate::specs::Inverse::formula))]
     fn formula(self, frame: Frame, x: f64, y: f64) -> Answer
         ensures { result ≡ formula frame self x y }
     {
-        let fault = validate_projected(x, y);
-        if fault == 0 {
-            self.place(frame, x - self.false_easting, y - self.false_northing)
-        } else {
-            Answer::Refused(fault)
-        }
+        validate_projected(x, y)?;
+        self.place(frame, x - self.false_easting, y - self.false_northing)
     }
 
+    #[tactic(auto, unfolding(crate::specs::Inverse::place, crate::specs::Inverse::ellipsoidal_formula))]
     fn place(self, frame: Frame, dx: f64, dy: f64) -> Answer
         ensures { result ≡ place frame self dx dy }
     {
         if self.spherical {
             self.spherical_formula(frame, dx, dy)
         } else {
-            let aspect = self.aspect;
-            match aspect {
+            match self.aspect {
                 Aspect::NorthPolar => self.north_polar_formula(frame, dx, dy),
                 Aspect::SouthPolar => self.south_polar_formula(frame, dx, dy),
                 Aspect::Oblique => self.oblique_formula(frame, dx, dy),

@@ -13,10 +13,10 @@ mod spherical;
 use authalic::{authalic_latitude, authalic_q};
 use ellipsoid::Ellipsoid;
 use float::{FRAC_PI_2, abs, is_finite};
-use projection::{or_else, validate_settings};
-use refusals::{ORIGIN_NEAR_POLE, ORIGIN_SCALE, POLAR_Q};
+use projection::{Settings, validate_settings};
+use refusals::Refusal;
 use root::root;
-use trigonometry::sin_cos;
+use trigonometry::{SinCos, sin_cos};
 
 #[derive(Clone, Copy)]
 pub enum Aspect {
@@ -45,20 +45,15 @@ pub struct LambertAzimuthalEqualArea {
     pub aspect: Aspect,
 }
 
-#[derive(Clone, Copy)]
-pub enum BuiltLambertAzimuthalEqualArea {
-    Built(LambertAzimuthalEqualArea),
-    Refused(u8),
-}
-
-// 0 where the value is finite and above 0, else the number.
-fn validate_positive(value: f64, number: u8) -> u8
-    ensures { result ≡ validate_positive value number }
+// Passes where the value is finite and above 0.
+#[tactic(auto, unfolding(crate::specs::LambertAzimuthalEqualArea::validate_positive))]
+fn validate_positive(value: f64, refusal: Refusal) -> Result<(), Refusal>
+    ensures { result ≡ validate_positive value refusal }
 {
     if is_finite(value) & (0.0 < value) {
-        0
+        Ok(())
     } else {
-        number
+        Err(refusal)
     }
 }
 
@@ -73,82 +68,50 @@ impl LambertAzimuthalEqualArea {
     pub const EDGE: f64 = f64::from_bits(0x3ff0_0000_0000_1198);
 
     // On the ellipsoid.
-    pub fn new(
-        ellipsoid: Ellipsoid,
-        lon0: f64,
-        lat0: f64,
-        false_easting: f64,
-        false_northing: f64,
-    ) -> BuiltLambertAzimuthalEqualArea
-        ensures { result ≡ new ellipsoid lon0 lat0 false_easting false_northing }
+    #[tactic(auto, unfolding(crate::specs::LambertAzimuthalEqualArea::new))]
+    pub fn new(ellipsoid: Ellipsoid, settings: Settings) -> Result<Self, Refusal>
+        ensures { result ≡ new ellipsoid settings }
     {
-        Self::built(ellipsoid, lon0, lat0, false_easting, false_northing, false)
+        Self::built(ellipsoid, settings, false)
     }
 
     // On the sphere that has the ellipsoid's area.
-    pub fn new_spherical(
-        ellipsoid: Ellipsoid,
-        lon0: f64,
-        lat0: f64,
-        false_easting: f64,
-        false_northing: f64,
-    ) -> BuiltLambertAzimuthalEqualArea
-        ensures { result ≡ new_spherical ellipsoid lon0 lat0 false_easting false_northing }
+    #[tactic(auto, unfolding(crate::specs::LambertAzimuthalEqualArea::new_spherical))]
+    pub fn new_spherical(ellipsoid: Ellipsoid, settings: Settings) -> Result<Self, Refusal>
+        ensures { result ≡ new_spherical ellipsoid settings }
     {
-        Self::built(ellipsoid, lon0, lat0, false_easting, false_northing, true)
+        Self::built(ellipsoid, settings, true)
     }
 
-    fn built(
-        ellipsoid: Ellipsoid,
-        lon0: f64,
-        lat0: f64,
-        false_easting: f64,
-        false_northing: f64,
-        spherical: bool,
-    ) -> BuiltLambertAzimuthalEqualArea
-        ensures { result ≡ built ellipsoid lon0 lat0 false_easting false_northing spherical }
+    // What `new` and `new_spherical` name.
+    #[tactic(auto, unfolding(crate::specs::LambertAzimuthalEqualArea::built))]
+    fn built(ellipsoid: Ellipsoid, settings: Settings, spherical: bool) -> Result<Self, Refusal>
+        ensures { result ≡ built ellipsoid settings spherical }
     {
-        let fault = validate_settings(lon0, lat0, 0.0, 0.0, false_easting, false_northing);
-        if fault == 0 {
-            Self::derived(
-                ellipsoid,
-                lon0,
-                lat0,
-                false_easting,
-                false_northing,
-                spherical,
-            )
-            .checked()
-        } else {
-            BuiltLambertAzimuthalEqualArea::Refused(fault)
-        }
+        validate_settings(settings)?;
+        Self::derived(ellipsoid, settings, spherical).checked()
     }
 
     // The settings and the numbers made of them.
-    fn derived(
-        ellipsoid: Ellipsoid,
-        lon0: f64,
-        lat0: f64,
-        false_easting: f64,
-        false_northing: f64,
-        spherical: bool,
-    ) -> LambertAzimuthalEqualArea
-        ensures { result ≡ derived ellipsoid lon0 lat0 false_easting false_northing spherical }
+    #[tactic(auto, unfolding(crate::specs::LambertAzimuthalEqualArea::derived))]
+    fn derived(ellipsoid: Ellipsoid, settings: Settings, spherical: bool) -> Self
+        ensures { result ≡ derived ellipsoid settings spherical }
     {
         let a = ellipsoid.a;
         let e2 = ellipsoid.e2();
+        let lat0 = settings.lat0;
         let q_p = authalic_q(FRAC_PI_2, e2);
         let rq = a * root(q_p / 2.0);
         let q0 = authalic_q(lat0, e2);
         let beta0 = sin_cos(authalic_latitude(q0, q_p));
         let origin = sin_cos(lat0);
         let aspect = Self::aspect_at(lat0);
-        LambertAzimuthalEqualArea {
+        Self {
             a,
             e2,
             spherical,
             spherical_radius: rq,
-            lon0,
+            lon0: settings.lon0,
             lat0,
             q_p,
             rq,
@@ -156,13 +119,14 @@ impl LambertAzimuthalEqualArea {
             cos_lat0: origin.cos,
             sin_beta0: beta0.sin,
             cos_beta0: beta0.cos,
-            d: Self::scale(aspect, a, e2, origin.sin, origin.cos, rq, beta0.cos),
-            false_easting,
-            false_northing,
+            d: Self::scale(aspect, a, e2, origin, rq, beta0.cos),
+            false_easting: settings.false_easting,
+            false_northing: settings.false_northing,
             aspect,
         }
     }
 
+    #[tactic(auto, unfolding(crate::specs::LambertAzimuthalEqualArea::aspect_at))]
     fn aspect_at(lat0: f64) -> Aspect
         ensures { result ≡ aspect_at lat0 }
     {
@@ -175,63 +139,53 @@ impl LambertAzimuthalEqualArea {
         }
     }
 
-    // The scale d: by d east and 1/d north the map is conformal at its origin.
-    fn scale(
-        aspect: Aspect,
-        a: f64,
-        e2: f64,
-        sin_lat0: f64,
-        cos_lat0: f64,
-        rq: f64,
-        cos_beta0: f64,
-    ) -> f64
-        ensures { result ≡ scale aspect a e2 sin_lat0 cos_lat0 rq cos_beta0 }
+    // The scale d, from the sine and cosine of lat0: by d east and 1/d north the map is conformal at its origin.
+    #[tactic(auto, unfolding(crate::specs::LambertAzimuthalEqualArea::scale))]
+    fn scale(aspect: Aspect, a: f64, e2: f64, origin: SinCos, rq: f64, cos_beta0: f64) -> f64
+        ensures { result ≡ scale aspect a e2 origin.sin origin.cos rq cos_beta0 }
     {
         match aspect {
             Aspect::Oblique => {
-                a * cos_lat0 / (root(1.0 - e2 * sin_lat0 * sin_lat0) * rq * cos_beta0)
+                a * origin.cos / (root(1.0 - e2 * origin.sin * origin.sin) * rq * cos_beta0)
             }
             Aspect::NorthPolar => 1.0,
             Aspect::SouthPolar => 1.0,
         }
     }
 
-    fn checked(self) -> BuiltLambertAzimuthalEqualArea
+    #[tactic(auto, unfolding(crate::specs::LambertAzimuthalEqualArea::checked))]
+    fn checked(self) -> Result<Self, Refusal>
         ensures { result ≡ checked self }
     {
-        let fault = self.fault();
-        if fault == 0 {
-            BuiltLambertAzimuthalEqualArea::Built(self)
-        } else {
-            BuiltLambertAzimuthalEqualArea::Refused(fault)
-        }
+        self.fault()?;
+        Ok(self)
     }
 
-    // What is wrong with the numbers made of the settings: 12, 13, 14, or 0.
-    fn fault(self) -> u8
+    // What is wrong with the numbers made of the settings: 12, 13 or 14.
+    #[tactic(auto, unfolding(crate::specs::LambertAzimuthalEqualArea::fault))]
+    fn fault(self) -> Result<(), Refusal>
         ensures { result ≡ fault self }
     {
-        let aspect = self.aspect;
-        let polar_q = validate_positive(self.q_p, POLAR_Q);
-        let origin = Self::validate_origin(aspect, self.cos_beta0);
-        let scale = validate_positive(self.d, ORIGIN_SCALE);
-        or_else(polar_q, or_else(origin, scale))
+        validate_positive(self.q_p, Refusal::PolarQ)?;
+        Self::validate_origin(self.aspect, self.cos_beta0)?;
+        validate_positive(self.d, Refusal::OriginScale)
     }
 
-    // 13 if the origin is not polar and its β0 is too near a pole, else 0.
-    fn validate_origin(aspect: Aspect, cos_beta0: f64) -> u8
+    // 13 if the origin is not polar and its β0 is too near a pole.
+    #[tactic(auto, unfolding(crate::specs::LambertAzimuthalEqualArea::validate_origin))]
+    fn validate_origin(aspect: Aspect, cos_beta0: f64) -> Result<(), Refusal>
         ensures { result ≡ validate_origin aspect cos_beta0 }
     {
         match aspect {
             Aspect::Oblique => {
                 if abs(cos_beta0) < Self::POLAR_EPSILON {
-                    ORIGIN_NEAR_POLE
+                    Err(Refusal::OriginNearPole)
                 } else {
-                    0
+                    Ok(())
                 }
             }
-            Aspect::NorthPolar => 0,
-            Aspect::SouthPolar => 0,
+            Aspect::NorthPolar => Ok(()),
+            Aspect::SouthPolar => Ok(()),
         }
     }
 }

@@ -8,11 +8,12 @@ use crate::inverse::{Click, angular_distance, bounded_arcsine, half_sine, judge}
 use authalic::{authalic_latitude, geodetic_from_authalic};
 use fixed::atan2;
 use projection::{Answer, Frame, ensure_finite_xy};
-use refusals::{ANTIPODE, OFF_THE_MAP};
+use refusals::Refusal;
 use root::{distance, root};
 use trigonometry::sin_cos;
 
 impl LambertAzimuthalEqualArea {
+    #[tactic(auto, unfolding(crate::specs::Forward::oblique_forward))]
     pub(crate) fn oblique_forward(self, d_lon: f64, q: f64) -> Answer
         ensures { result ≡ oblique_forward self d_lon q }
     {
@@ -25,7 +26,7 @@ impl LambertAzimuthalEqualArea {
         let cos_beta0 = self.cos_beta0;
         let denom = 1.0 + sin_beta0 * sin_beta + cos_beta0 * cos_beta * cos_d_lon;
         if denom <= 0.0 {
-            Answer::Refused(ANTIPODE)
+            Err(Refusal::Antipode)
         } else {
             let b = self.rq * root(2.0 / denom);
             let d = self.d;
@@ -37,6 +38,7 @@ impl LambertAzimuthalEqualArea {
         }
     }
 
+    #[tactic(auto, unfolding(crate::specs::Inverse::oblique_formula, crate::specs::Inverse::judged))]
     pub(crate) fn oblique_formula(self, frame: Frame, dx: f64, dy: f64) -> Answer
         ensures { result ≡ oblique_formula frame self dx dy }
     {
@@ -45,8 +47,8 @@ impl LambertAzimuthalEqualArea {
         let rho = distance(dx / d, y_scaled);
         let half = half_sine(rho, self.rq);
         match judge(frame, rho, half) {
-            Click::AtCentre => Answer::Pair(self.lon0, self.lat0),
-            Click::InFrame => Answer::Refused(OFF_THE_MAP),
+            Click::AtCentre => Ok((self.lon0, self.lat0)),
+            Click::InFrame => Err(Refusal::OffTheMap),
             Click::OnMap => {
                 let c = sin_cos(angular_distance(half));
                 let sin_c = c.sin;
@@ -58,7 +60,7 @@ impl LambertAzimuthalEqualArea {
                     dx * sin_c,
                     d * rho * cos_beta0 * cos_c - d * d * dy * sin_beta0 * sin_c,
                 );
-                Answer::Pair(self.lon0 + d_lon, geodetic_from_authalic(beta, self.e2))
+                Ok((self.lon0 + d_lon, geodetic_from_authalic(beta, self.e2)))
             }
         }
     }

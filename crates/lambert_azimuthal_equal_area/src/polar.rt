@@ -1,6 +1,6 @@
 // On the ellipsoid, about a pole.
 ghost use Rattle.std.specs.Prelude.{◌≡◌};
-ghost use Rattle.lambert_azimuthal_equal_area.specs.Forward.{north_polar_forward, south_polar_forward};
+ghost use Rattle.lambert_azimuthal_equal_area.specs.Forward.{from_pole, north_polar_forward, south_polar_forward};
 ghost use Rattle.lambert_azimuthal_equal_area.specs.Inverse.{north_polar_formula, south_polar_formula, polar_place};
 
 use crate::LambertAzimuthalEqualArea;
@@ -9,33 +9,38 @@ use authalic::geodetic_from_authalic;
 use fixed::atan2;
 use float::{abs, max_zero};
 use projection::{Answer, Frame, ensure_finite_xy};
-use refusals::OFF_THE_MAP;
+use refusals::Refusal;
 use root::{distance, root};
 use trigonometry::sin_cos;
 
+// The poles share `from_pole` and `polar_place`. What is left differs in Snyder's signs: one function with a factor of 1 or -1 would multiply at each point, and would not say which formula it has.
 impl LambertAzimuthalEqualArea {
+    #[tactic(auto, unfolding(crate::specs::Forward::north_polar_forward))]
     pub(crate) fn north_polar_forward(self, d_lon: f64, q: f64) -> Answer
         ensures { result ≡ north_polar_forward self d_lon q }
     {
-        let delta = sin_cos(d_lon);
-        let rho = self.a * root(max_zero(self.q_p - q));
-        ensure_finite_xy(
-            self.false_easting + rho * delta.sin,
-            self.false_northing - rho * delta.cos,
-        )
+        let (x, y) = self.from_pole(d_lon, self.q_p - q);
+        ensure_finite_xy(self.false_easting + x, self.false_northing - y)
     }
 
+    #[tactic(auto, unfolding(crate::specs::Forward::south_polar_forward))]
     pub(crate) fn south_polar_forward(self, d_lon: f64, q: f64) -> Answer
         ensures { result ≡ south_polar_forward self d_lon q }
     {
-        let delta = sin_cos(d_lon);
-        let rho = self.a * root(max_zero(self.q_p + q));
-        ensure_finite_xy(
-            self.false_easting + rho * delta.sin,
-            self.false_northing + rho * delta.cos,
-        )
+        let (x, y) = self.from_pole(d_lon, self.q_p + q);
+        ensure_finite_xy(self.false_easting + x, self.false_northing + y)
     }
 
+    // How far a place lies from the pole, across the origin's meridian and along it. The difference is that of its q from the pole's: below 0 it is taken for 0.
+    fn from_pole(self, d_lon: f64, difference: f64) -> (f64, f64)
+        ensures { result ≡ from_pole self d_lon difference }
+    {
+        let delta = sin_cos(d_lon);
+        let rho = self.a * root(max_zero(difference));
+        (rho * delta.sin, rho * delta.cos)
+    }
+
+    #[tactic(auto, unfolding(crate::specs::Inverse::north_polar_formula))]
     pub(crate) fn north_polar_formula(self, frame: Frame, dx: f64, dy: f64) -> Answer
         ensures { result ≡ north_polar_formula frame self dx dy }
     {
@@ -44,6 +49,7 @@ impl LambertAzimuthalEqualArea {
         self.polar_place(frame, rho, q_over_q_p, atan2(dx, -dy))
     }
 
+    #[tactic(auto, unfolding(crate::specs::Inverse::south_polar_formula))]
     pub(crate) fn south_polar_formula(self, frame: Frame, dx: f64, dy: f64) -> Answer
         ensures { result ≡ south_polar_formula frame self dx dy }
     {
@@ -53,17 +59,16 @@ impl LambertAzimuthalEqualArea {
     }
 
     // At the centre β is lat0.
+    #[tactic(auto, unfolding(crate::specs::Inverse::polar_place, crate::specs::Inverse::judged))]
     fn polar_place(self, frame: Frame, rho: f64, q_over_q_p: f64, d_lon: f64) -> Answer
         ensures { result ≡ polar_place frame self rho q_over_q_p d_lon }
     {
         match judge(frame, rho, abs(q_over_q_p)) {
-            Click::AtCentre => {
-                Answer::Pair(self.lon0, geodetic_from_authalic(self.lat0, self.e2))
-            }
-            Click::InFrame => Answer::Refused(OFF_THE_MAP),
+            Click::AtCentre => Ok((self.lon0, geodetic_from_authalic(self.lat0, self.e2))),
+            Click::InFrame => Err(Refusal::OffTheMap),
             Click::OnMap => {
                 let beta = bounded_arcsine(q_over_q_p);
-                Answer::Pair(self.lon0 + d_lon, geodetic_from_authalic(beta, self.e2))
+                Ok((self.lon0 + d_lon, geodetic_from_authalic(beta, self.e2)))
             }
         }
     }
