@@ -104,6 +104,7 @@ impl Point {
         }
     }
 
+    #[tactic(auto, using(projection::proofs::Steps::one_step, projection::proofs::Steps::after_done, projection::proofs::Steps::after_refusal, projection::proofs::Steps::after_more, projection::proofs::Steps::used_up), unfolding(crate::specs::Newton::latitude))]
     pub(crate) fn latitude(self) -> Result<f64, Refusal>
         ensures { result ≡ latitude self }
     {
