@@ -1,3 +1,2 @@
 mod AdditionCommutes
 pub mod AsInSource
-pub mod NeverZero

@@ -1,5 +1,6 @@
 -- American Polyconic, EPSG method 9818, on the sphere (Snyder 18-1 to 18-10) and on the ellipsoid (18-12 to 18-22), in the source's order of operations. e² = 0 is a sphere.
-use Rattle.std.specs.Prelude.{cond, List, Float}
+use Rattle.std.specs.Prelude.{cond, List, Float, Result, Ok, Err}
+use Rattle.std.specs.Result.{result_and}
 use Rattle.std.specs.Float.Ieee.{neg}
 use Rattle.float.specs.Operators.{◌⊕◌, ◌⊖◌, ◌⊗◌, ◌⊘◌, ◌≺◌, ◌≼◌, ◌≈◌}
 use Rattle.float.specs.Constants.{+0, one}
@@ -9,49 +10,44 @@ use Rattle.fixed.specs.Arctangent.{arcsine}
 use Rattle.ellipsoid.specs.Ellipsoid.{e2}
 use Rattle.ellipsoid.specs.declared.Ellipsoid.{Ellipsoid}
 use Rattle.meridian.specs.Meridian.{meridian_arc_coefficients, meridian_arc}
-use Rattle.projection.specs.Checks.{guard, validate_settings, validate_projected}
+use Rattle.refusals.specs.declared.Refusal.{Refusal}
+use Rattle.projection.specs.Answer.{Answer}
+use Rattle.projection.specs.Checks.{validate_settings, validate_projected}
 use Rattle.projection.specs.Starts.{enter, entered}
 use Rattle.projection.specs.Ends.{ensure_finite_xy, finish}
-use Rattle.projection.specs.declared.Answer.{Answer}
-use Rattle.projection.specs.declared.Answer.TheVariants.{Pair, Refused}
-use Rattle.projection.specs.declared.Solution.{Solution}
-use Rattle.projection.specs.declared.Solution.TheVariants as solution
+use Rattle.projection.specs.declared.Settings.{Settings}
 use Rattle.american_polyconic.specs.Tolerances.{EQUATOR_TOL}
 use Rattle.american_polyconic.specs.Newton.{nu, latitude}
 use Rattle.american_polyconic.specs.declared.AmericanPolyconic.{AmericanPolyconic}
 use Rattle.american_polyconic.specs.declared.NewAmericanPolyconic.{NewAmericanPolyconic}
-use Rattle.american_polyconic.specs.declared.BuiltAmericanPolyconic.{BuiltAmericanPolyconic}
-use Rattle.american_polyconic.specs.declared.BuiltAmericanPolyconic.TheVariants as polyconic
 
 -- the meridian arc at lat0 over a; on a sphere lat0 negated
 unfoldable pub origin_arc : Float → Float → List Float → Float
 origin_arc e2 lat0 en = cond (e2 ≈ +0) (neg lat0) (meridian_arc lat0 (sine lat0) (cosine lat0) en)
 
-unfoldable pub derived : Ellipsoid → Float → Float → Float → Float → List Float → AmericanPolyconic
+unfoldable pub derived : Ellipsoid → Settings → List Float → AmericanPolyconic
 unfolding origin_arc
-derived ellipsoid lon0 lat0 false_easting false_northing en =
+derived ellipsoid settings en =
     record {
       a = ellipsoid.a;
       e2 = e2 ellipsoid;
-      lon0 = lon0;
-      lat0 = lat0;
-      false_easting = false_easting;
-      false_northing = false_northing;
-      ml0 = origin_arc (e2 ellipsoid) lat0 en;
+      lon0 = settings.lon0;
+      lat0 = settings.lat0;
+      false_easting = settings.false_easting;
+      false_northing = settings.false_northing;
+      ml0 = origin_arc (e2 ellipsoid) settings.lat0 en;
     }
 
 -- 6 to 10, or what is derived
-unfoldable pub built : Ellipsoid → Float → Float → Float → Float → List Float → BuiltAmericanPolyconic
+unfoldable pub built : Ellipsoid → Settings → List Float → Result AmericanPolyconic Refusal
 unfolding derived
-built ellipsoid lon0 lat0 false_easting false_northing en =
-    guard (validate_settings lon0 lat0 +0 +0 false_easting false_northing) polyconic.Refused
-    (polyconic.Built (derived ellipsoid lon0 lat0 false_easting false_northing en))
+built ellipsoid settings en = result_and (validate_settings settings) (Ok (derived ellipsoid settings en))
 
 -- the meridian numbers stand beside what is built
-unfoldable pub new : Ellipsoid → Float → Float → Float → Float → NewAmericanPolyconic
-new ellipsoid lon0 lat0 false_easting false_northing =
+unfoldable pub new : Ellipsoid → Settings → NewAmericanPolyconic
+new ellipsoid settings =
     let en = meridian_arc_coefficients (e2 ellipsoid) in
-    record { built = built ellipsoid lon0 lat0 false_easting false_northing en; en = en }
+    record { built = built ellipsoid settings en; en = en }
 
 -- from units of a to the map
 unfoldable pub scaled : AmericanPolyconic → Float → Float → Answer
@@ -95,23 +91,23 @@ unfoldable pub sin_e : AmericanPolyconic → Float → Float → Float → Float
 sin_e p xs tp sp = cond (p.e2 ≈ +0) (xs ⊗ tp) (xs ⊗ tp ⊗ nu p.e2 sp)
 
 -- E is the longitude from lon0 times sin φ (18-2)
-unfoldable pub at_latitude : AmericanPolyconic → Float → Solution → Answer
+unfoldable pub at_latitude : AmericanPolyconic → Float → Result Float Refusal → Answer
 unfolding sin_e
-at_latitude p xs (solution.Found phi) = Pair (p.lon0 ⊕ arcsine (sin_e p xs (tangent phi) (sine phi)) ⊘ sine phi) phi
-at_latitude p xs (solution.Refused n) = Refused n
+at_latitude p xs (Ok phi) = Ok (p.lon0 ⊕ arcsine (sin_e p xs (tangent phi) (sine phi)) ⊘ sine phi, phi)
+at_latitude p xs (Err r) = Err r
 
 -- The place at the easting xs over a and at ys = A: on the equator Snyder 7-5 and 7-12, off it by the latitude, with B = xs² + A² (18-8, 18-19).
 -- On the ellipsoid the source sums B in the other order: specs/AsInSource.
 unfoldable pub place : AmericanPolyconic → List Float → Float → Float → Answer
 unfolding at_latitude
 place p en xs ys =
-    cond (abs ys ≼ EQUATOR_TOL) (Pair (p.lon0 ⊕ xs) +0)
-    (at_latitude p xs (latitude p.e2 en ys (xs ⊗ xs ⊕ ys ⊗ ys)))
+    cond (abs ys ≼ EQUATOR_TOL) (Ok (p.lon0 ⊕ xs, +0))
+    (at_latitude p xs (latitude (record { e2 = p.e2; en = en; ys = ys; b = xs ⊗ xs ⊕ ys ⊗ ys })))
 
 -- the place, its longitude not normalised yet
 unfoldable pub formula : AmericanPolyconic → List Float → Float → Float → Answer
 unfolding place ordinate
-formula p en x y = guard (validate_projected x y) Refused (place p en ((x ⊖ p.false_easting) ⊘ p.a) (ordinate p y))
+formula p en x y = result_and (validate_projected x y) (place p en ((x ⊖ p.false_easting) ⊘ p.a) (ordinate p y))
 
 unfoldable pub inverse : AmericanPolyconic → List Float → Float → Float → Answer
 unfolding formula

@@ -6,19 +6,19 @@ use crate::AmericanPolyconic;
 use crate::newton::nu;
 use float::abs;
 use meridian::meridian_arc;
-use projection::{Answer, Entrance, ensure_finite_xy, enter};
+use projection::{Answer, ensure_finite_xy, enter};
 use trigonometry::sin_cos;
 
 impl AmericanPolyconic {
+    #[tactic(auto, unfolding(crate::specs::AmericanPolyconic::forward, projection::specs::Starts::entered))]
     pub fn forward(self, en: [f64; 13], lon: f64, lat: f64) -> Answer
         ensures { result ≡ forward self en lon lat }
     {
-        match enter(lon, lat, self.lon0) {
-            Entrance::Passed(d_lon) => self.projected(en, d_lon, lat),
-            Entrance::Refused(n) => Answer::Refused(n),
-        }
+        let d_lon = enter(lon, lat, self.lon0)?;
+        self.projected(en, d_lon, lat)
     }
 
+    #[tactic(auto, unfolding(crate::specs::AmericanPolyconic::projected))]
     fn projected(self, en: [f64; 13], d_lon: f64, lat: f64) -> Answer
         ensures { result ≡ projected self en d_lon lat }
     {
@@ -30,6 +30,7 @@ impl AmericanPolyconic {
     }
 
     // From units of a to the map.
+    #[tactic(auto, unfolding(crate::specs::AmericanPolyconic::scaled))]
     pub(crate) fn scaled(self, x: f64, y: f64) -> Answer
         ensures { result ≡ scaled self x y }
     {
@@ -40,6 +41,7 @@ impl AmericanPolyconic {
     }
 
     // The radius of the parallel's arc over a, 0 at a pole.
+    #[tactic(auto, unfolding(crate::specs::AmericanPolyconic::cone_radius))]
     fn cone_radius(self, sp: f64, cp: f64) -> f64
         ensures { result ≡ cone_radius self sp cp }
     {
@@ -50,6 +52,7 @@ impl AmericanPolyconic {
         }
     }
 
+    #[tactic(auto, unfolding(crate::specs::AmericanPolyconic::ellipsoid_forward))]
     fn ellipsoid_forward(self, en: [f64; 13], d_lon: f64, lat: f64) -> Answer
         ensures { result ≡ ellipsoid_forward self en d_lon lat }
     {

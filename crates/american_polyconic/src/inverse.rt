@@ -4,14 +4,16 @@ ghost use Rattle.projection.specs.OnTheMap.{OnTheMap};
 ghost use Rattle.american_polyconic.specs.AmericanPolyconic.{ordinate, sin_e, at_latitude, place, formula, inverse};
 
 use crate::AmericanPolyconic;
-use crate::newton::{latitude, nu};
+use crate::newton::{Point, nu};
 use fixed::asin;
 use float::abs;
-use projection::{Answer, Solution, finish, validate_projected};
+use projection::{Answer, finish, validate_projected};
+use refusals::Refusal;
 use trigonometry::sin_cos;
 
 impl AmericanPolyconic {
     // The northing over a, counted from the equator.
+    #[tactic(auto, unfolding(crate::specs::AmericanPolyconic::ordinate))]
     fn ordinate(self, y: f64) -> f64
         ensures { result ≡ ordinate self y }
     {
@@ -23,6 +25,7 @@ impl AmericanPolyconic {
     }
 
     // The sine of E, which is the longitude from lon0 times the sine of the latitude.
+    #[tactic(auto, unfolding(crate::specs::AmericanPolyconic::sin_e))]
     fn sin_e(self, xs: f64, tp: f64, sp: f64) -> f64
         ensures { result ≡ sin_e self xs tp sp }
     {
@@ -33,40 +36,42 @@ impl AmericanPolyconic {
         }
     }
 
-    fn at_latitude(self, xs: f64, solution: Solution) -> Answer
-        ensures { result ≡ at_latitude self xs solution }
+    #[tactic(auto, unfolding(crate::specs::AmericanPolyconic::at_latitude, trigonometry::specs::Trigonometry::tangent))]
+    fn at_latitude(self, xs: f64, latitude: Result<f64, Refusal>) -> Answer
+        ensures { result ≡ at_latitude self xs latitude }
     {
-        match solution {
-            Solution::Found(phi) => {
-                let sc = sin_cos(phi);
-                let e = asin(self.sin_e(xs, sc.sin / sc.cos, sc.sin));
-                Answer::Pair(self.lon0 + e / sc.sin, phi)
-            }
-            Solution::Refused(n) => Answer::Refused(n),
-        }
+        let phi = latitude?;
+        let sc = sin_cos(phi);
+        let e = asin(self.sin_e(xs, sc.sin / sc.cos, sc.sin));
+        Ok((self.lon0 + e / sc.sin, phi))
     }
 
+    #[tactic(auto, unfolding(crate::specs::AmericanPolyconic::place))]
     fn place(self, en: [f64; 13], xs: f64, ys: f64) -> Answer
         ensures { result ≡ place self en xs ys }
     {
         if abs(ys) <= Self::EQUATOR_TOL {
-            Answer::Pair(self.lon0 + xs, 0.0)
+            Ok((self.lon0 + xs, 0.0))
         } else {
-            self.at_latitude(xs, latitude(self.e2, en, ys, xs * xs + ys * ys))
+            let point = Point {
+                e2: self.e2,
+                en,
+                ys,
+                b: xs * xs + ys * ys,
+            };
+            self.at_latitude(xs, point.latitude())
         }
     }
 
+    #[tactic(auto, unfolding(crate::specs::AmericanPolyconic::formula))]
     fn formula(self, en: [f64; 13], x: f64, y: f64) -> Answer
         ensures { result ≡ formula self en x y }
     {
-        let fault = validate_projected(x, y);
-        if fault == 0 {
-            self.place(en, (x - self.false_easting) / self.a, self.ordinate(y))
-        } else {
-            Answer::Refused(fault)
-        }
+        validate_projected(x, y)?;
+        self.place(en, (x - self.false_easting) / self.a, self.ordinate(y))
     }
 
+    #[tactic(auto, unfolding(crate::specs::AmericanPolyconic::inverse))]
     pub fn inverse(self, en: [f64; 13], x: f64, y: f64) -> Answer
         ensures { (result ≡ inverse self en x y) × OnTheMap (formula self en x y) result }
     {

@@ -11,7 +11,8 @@ mod sphere;
 
 use ellipsoid::Ellipsoid;
 use meridian::{meridian_arc, meridian_arc_coefficients};
-use projection::validate_settings;
+use projection::{Settings, validate_settings};
+use refusals::Refusal;
 use trigonometry::sin_cos;
 
 #[derive(Clone, Copy)]
@@ -26,16 +27,10 @@ pub struct AmericanPolyconic {
     pub ml0: f64,
 }
 
-#[derive(Clone, Copy)]
-pub enum BuiltAmericanPolyconic {
-    Built(AmericanPolyconic),
-    Refused(u8),
-}
-
-// The constructor's answer, and beside it the meridian numbers.
+// The constructor's answer, and beside it the meridian numbers: C's `lenthuc_build` promises them of a refused projection too.
 #[derive(Clone, Copy)]
 pub struct NewAmericanPolyconic {
-    pub built: BuiltAmericanPolyconic,
+    pub built: Result<AmericanPolyconic, Refusal>,
     pub en: [f64; 13],
 }
 
@@ -48,70 +43,47 @@ impl AmericanPolyconic {
 
     pub const STEPS: usize = 20;
 
-    pub fn new(
-        ellipsoid: Ellipsoid,
-        lon0: f64,
-        lat0: f64,
-        false_easting: f64,
-        false_northing: f64,
-    ) -> NewAmericanPolyconic
-        ensures { result ≡ new ellipsoid lon0 lat0 false_easting false_northing }
+    #[tactic(auto, unfolding(crate::specs::AmericanPolyconic::new))]
+    pub fn new(ellipsoid: Ellipsoid, settings: Settings) -> NewAmericanPolyconic
+        ensures { result ≡ new ellipsoid settings }
     {
         let en = meridian_arc_coefficients(ellipsoid.e2());
         NewAmericanPolyconic {
-            built: Self::built(ellipsoid, lon0, lat0, false_easting, false_northing, en),
+            built: Self::built(ellipsoid, settings, en),
             en,
         }
     }
 
+    #[tactic(auto, unfolding(crate::specs::AmericanPolyconic::built))]
     fn built(
         ellipsoid: Ellipsoid,
-        lon0: f64,
-        lat0: f64,
-        false_easting: f64,
-        false_northing: f64,
+        settings: Settings,
         en: [f64; 13],
-    ) -> BuiltAmericanPolyconic
-        ensures { result ≡ built ellipsoid lon0 lat0 false_easting false_northing en }
+    ) -> Result<AmericanPolyconic, Refusal>
+        ensures { result ≡ built ellipsoid settings en }
     {
-        let fault = validate_settings(lon0, lat0, 0.0, 0.0, false_easting, false_northing);
-        if fault == 0 {
-            BuiltAmericanPolyconic::Built(Self::derived(
-                ellipsoid,
-                lon0,
-                lat0,
-                false_easting,
-                false_northing,
-                en,
-            ))
-        } else {
-            BuiltAmericanPolyconic::Refused(fault)
-        }
+        validate_settings(settings)?;
+        Ok(Self::derived(ellipsoid, settings, en))
     }
 
     // The settings and the numbers made of them.
-    fn derived(
-        ellipsoid: Ellipsoid,
-        lon0: f64,
-        lat0: f64,
-        false_easting: f64,
-        false_northing: f64,
-        en: [f64; 13],
-    ) -> AmericanPolyconic
-        ensures { result ≡ derived ellipsoid lon0 lat0 false_easting false_northing en }
+    #[tactic(auto, unfolding(crate::specs::AmericanPolyconic::derived))]
+    fn derived(ellipsoid: Ellipsoid, settings: Settings, en: [f64; 13]) -> AmericanPolyconic
+        ensures { result ≡ derived ellipsoid settings en }
     {
         let e2 = ellipsoid.e2();
         AmericanPolyconic {
             a: ellipsoid.a,
             e2,
-            lon0,
-            lat0,
-            false_easting,
-            false_northing,
-            ml0: Self::origin_arc(e2, lat0, en),
+            lon0: settings.lon0,
+            lat0: settings.lat0,
+            false_easting: settings.false_easting,
+            false_northing: settings.false_northing,
+            ml0: Self::origin_arc(e2, settings.lat0, en),
         }
     }
 
+    #[tactic(auto, unfolding(crate::specs::AmericanPolyconic::origin_arc))]
     fn origin_arc(e2: f64, lat0: f64, en: [f64; 13]) -> f64
         ensures { result ≡ origin_arc e2 lat0 en }
     {

@@ -5,12 +5,22 @@ ghost use Rattle.american_polyconic.specs.Newton.{nu, moved, sphere_step, fracti
 use crate::AmericanPolyconic;
 use float::abs;
 use meridian::meridian_arc;
-use projection::{Solution, Step};
-use refusals::{STEP_AT_POLE, STEPS_USED_UP};
+use projection::Step;
+use refusals::Refusal;
 use root::root;
-use trigonometry::{sin_cos, tan};
+use trigonometry::{SinCos, sin_cos, tan};
+
+// A point whose latitude is sought: ys is its northing over a from the equator, and b is xs² + ys².
+#[derive(Clone, Copy)]
+pub(crate) struct Point {
+    pub(crate) e2: f64,
+    pub(crate) en: [f64; 13],
+    pub(crate) ys: f64,
+    pub(crate) b: f64,
+}
 
 // a over the radius of curvature in the prime vertical.
+#[tactic(auto, unfolding(crate::specs::Newton::nu))]
 pub(crate) fn nu(e2: f64, sp: f64) -> f64
     ensures { result ≡ nu e2 sp }
 {
@@ -18,6 +28,7 @@ pub(crate) fn nu(e2: f64, sp: f64) -> f64
 }
 
 // Done after a step of at most the tolerance.
+#[tactic(auto, unfolding(crate::specs::Newton::moved))]
 fn moved(dphi: f64, next: f64) -> Step
     ensures { result ≡ moved dphi next }
 {
@@ -28,67 +39,82 @@ fn moved(dphi: f64, next: f64) -> Step
     }
 }
 
-fn sphere_step(ys: f64, b: f64, phi: f64) -> Step
-    ensures { result ≡ sphere_step ys b phi }
-{
-    let tp = tan(phi);
-    let dphi = (ys * (phi * tp + 1.0) - phi - 0.5 * (phi * phi + b) * tp) / ((phi - ys) / tp - 1.0);
-    moved(dphi, phi - dphi)
-}
-
-// The fraction of the ellipsoid's step.
-fn fraction(e2: f64, ys: f64, s2ph: f64, c: f64, ml: f64, mlb: f64, mlp: f64) -> f64
-    ensures { result ≡ fraction e2 ys s2ph c ml mlb mlp }
-{
-    (ml + ml + c * mlb - 2.0 * ys * (c * ml + 1.0))
-        / (e2 * s2ph * (mlb - 2.0 * ys * ml) / c + 2.0 * (ys - ml) * (c * mlp - 1.0 / s2ph)
-            - mlp
-            - mlp)
-}
-
-// By how much the ellipsoid's step moves phi, whose sine and cosine are sp and cp.
-fn correction(e2: f64, en: [f64; 13], ys: f64, b: f64, phi: f64, sp: f64, cp: f64) -> f64
-    ensures { result ≡ correction e2 en ys b phi sp cp }
-{
-    let w = nu(e2, sp);
-    let ml = meridian_arc(phi, sp, cp, en);
-    let mlp = (1.0 - e2) / (w * w * w);
-    fraction(e2, ys, sp * cp, sp * w / cp, ml, ml * ml + b, mlp)
-}
-
-fn ellipsoid_step(e2: f64, en: [f64; 13], ys: f64, b: f64, phi: f64) -> Step
-    ensures { result ≡ ellipsoid_step e2 en ys b phi }
-{
-    let sc = sin_cos(phi);
-    if abs(sc.cos) < AmericanPolyconic::TOLERANCE {
-        Step::Stop(STEP_AT_POLE)
-    } else {
-        let dphi = correction(e2, en, ys, b, phi, sc.sin, sc.cos);
-        moved(dphi, phi + dphi)
+impl Point {
+    #[tactic(auto, unfolding(crate::specs::Newton::sphere_step))]
+    fn sphere_step(self, phi: f64) -> Step
+        ensures { result ≡ sphere_step self.ys self.b phi }
+    {
+        let ys = self.ys;
+        let tp = tan(phi);
+        let dphi = (ys * (phi * tp + 1.0) - phi - 0.5 * (phi * phi + self.b) * tp)
+            / ((phi - ys) / tp - 1.0);
+        moved(dphi, phi - dphi)
     }
-}
 
-fn step(e2: f64, en: [f64; 13], ys: f64, b: f64, phi: f64) -> Step
-    ensures { result ≡ step e2 en ys b phi }
-{
-    if e2 == 0.0 {
-        sphere_step(ys, b, phi)
-    } else {
-        ellipsoid_step(e2, en, ys, b, phi)
+    // The fraction of the ellipsoid's step.
+    #[tactic(auto, unfolding(crate::specs::Newton::fraction))]
+    fn fraction(self, s2ph: f64, c: f64, ml: f64, mlb: f64, mlp: f64) -> f64
+        ensures { result ≡ fraction self s2ph c ml mlb mlp }
+    {
+        let ys = self.ys;
+        (ml + ml + c * mlb - 2.0 * ys * (c * ml + 1.0))
+            / (self.e2 * s2ph * (mlb - 2.0 * ys * ml) / c + 2.0 * (ys - ml) * (c * mlp - 1.0 / s2ph)
+                - mlp
+                - mlp)
     }
-}
 
-pub(crate) fn latitude(e2: f64, en: [f64; 13], ys: f64, b: f64) -> Solution
-    ensures { result ≡ latitude e2 en ys b }
-{
-    let mut phi = ys;
-    for _ in 0..AmericanPolyconic::STEPS {
-        let s = step(e2, en, ys, b, phi);
-        match s {
-            Step::Done(found) => return Solution::Found(found),
-            Step::Stop(n) => return Solution::Refused(n),
-            Step::More(next) => phi = next,
+    // By how much the ellipsoid's step moves phi, whose sine and cosine are sc.
+    #[tactic(auto, unfolding(crate::specs::Newton::correction))]
+    fn correction(self, phi: f64, sc: SinCos) -> f64
+        ensures { result ≡ correction self phi sc.sin sc.cos }
+    {
+        let w = nu(self.e2, sc.sin);
+        let ml = meridian_arc(phi, sc.sin, sc.cos, self.en);
+        let mlp = (1.0 - self.e2) / (w * w * w);
+        self.fraction(
+            sc.sin * sc.cos,
+            sc.sin * w / sc.cos,
+            ml,
+            ml * ml + self.b,
+            mlp,
+        )
+    }
+
+    #[tactic(auto, unfolding(crate::specs::Newton::ellipsoid_step))]
+    fn ellipsoid_step(self, phi: f64) -> Result<Step, Refusal>
+        ensures { result ≡ ellipsoid_step self phi }
+    {
+        let sc = sin_cos(phi);
+        if abs(sc.cos) < AmericanPolyconic::TOLERANCE {
+            Err(Refusal::StepAtPole)
+        } else {
+            let dphi = self.correction(phi, sc);
+            Ok(moved(dphi, phi + dphi))
         }
     }
-    Solution::Refused(STEPS_USED_UP)
+
+    #[tactic(auto, unfolding(crate::specs::Newton::step))]
+    fn step(self, phi: f64) -> Result<Step, Refusal>
+        ensures { result ≡ step self phi }
+    {
+        if self.e2 == 0.0 {
+            Ok(self.sphere_step(phi))
+        } else {
+            self.ellipsoid_step(phi)
+        }
+    }
+
+    #[tactic(auto, using(projection::proofs::Steps::one_step, projection::proofs::Steps::after_done, projection::proofs::Steps::after_refusal, projection::proofs::Steps::after_more, projection::proofs::Steps::used_up), unfolding(crate::specs::Newton::latitude))]
+    pub(crate) fn latitude(self) -> Result<f64, Refusal>
+        ensures { result ≡ latitude self }
+    {
+        let mut phi = self.ys;
+        for _ in 0..AmericanPolyconic::STEPS {
+            match self.step(phi)? {
+                Step::Done(found) => return Ok(found),
+                Step::More(next) => phi = next,
+            }
+        }
+        Err(Refusal::StepsUsedUp)
+    }
 }

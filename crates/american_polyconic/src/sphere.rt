@@ -8,6 +8,7 @@ use projection::Answer;
 use trigonometry::sin_cos;
 
 impl AmericanPolyconic {
+    #[tactic(auto, unfolding(crate::specs::AmericanPolyconic::sphere_forward, trigonometry::specs::Trigonometry::tangent))]
     pub(crate) fn sphere_forward(self, d_lon: f64, lat: f64) -> Answer
         ensures { result ≡ sphere_forward self d_lon lat }
     {
