@@ -1,5 +1,5 @@
--- Only one whole number is nearest to a root, and these tests find it.
-use Rattle.std.proofs.Common.{◌≡◌, ℕ, zero, suc, ◌+◌, ◌-◌, ◌*◌, ◌/◌, ◌^◌, ◌<◌, ◌≤◌, zero-lt-suc, le_antisymm, lt_of_not-le, arith}
+-- Only one whole number is nearest to a root, and it is q if n is q * q and at most q more.
+use Rattle.std.proofs.Common.{◌≡◌, ℕ, zero, suc, ◌+◌, ◌*◌, ◌<◌, ◌≤◌, zero-lt-suc, le_antisymm, lt_of_not-le, arith}
 use native.Mathlib.Nat.{le_dest}
 use native.Mathlib.Decide.{dec_le}
 use Rattle.root.specs.Nearest.{NearestWhole}
@@ -24,14 +24,3 @@ some (suc q) N h = zero-lt-suc q
 -- q is the whole part of the root
 pub near_same : (n q : ℕ) → 0 < n → q * q ≤ n → n ≤ q * q + q → NearestWhole n q
 near_same n q N l h = record { above = omega (arith, some q N h); below = h }
-
--- the square of s * 2 ^ 21 + d, against (s * s + r) * 2 ^ 42, without the last 22 digits
-pub near_parts : (r s d : ℕ) → r * 2 ^ 20 ≤ s * d + (d * d) / 2 ^ 22 + (s * 2 ^ 21 + d) / 2 ^ 22 → s * d + (d * d) / 2 ^ 22 < r * 2 ^ 20 + (s * 2 ^ 21 + d) / 2 ^ 22
-    → NearestWhole ((s * s + r) * 2 ^ 42) (s * 2 ^ 21 + d)
-near_parts r s d below above =
-    let w : (s * 2 ^ 21 + d) * (s * 2 ^ 21 + d) ≡ 2 ^ 42 * (s * s) + 2 ^ 22 * (s * d) + d * d = omega arith in
-    record { above = omega arith; below = omega arith }
-
--- what is left of n * 2 ^ 10 beside w
-pub near_left : (n w q : ℕ) → w ≤ n * 2 ^ 10 → NearestWhole ((w + (n * 2 ^ 10 - w)) * 2 ^ 42) q → NearestWhole (n * 2 ^ 52) q
-near_left n w q h r = let e : (w + (n * 2 ^ 10 - w)) * 2 ^ 42 ≡ n * 2 ^ 52 = omega arith in rw e at r

@@ -19,6 +19,12 @@ pub record Scaled (x : Float) (m e : ℕ) : Type 0 where
   pub size : unit_count binary64 x * 2 ^ 1074 ≡ m * 2 ^ e
   pub root : root x ≡ root_units (m * 2 ^ e)
 
+-- x is a subnormal number, whose bits begin with z zeros
+pub record Small (x : Float) (z : ℕ) : Type 0 where
+  pub least : 11 ≤ z
+  pub most : z ≤ 63
+  pub scaled : Scaled x ((to_bits binary64 x * 2 ^ (z - 11)) % 2 ^ 64) (1074 - (z - 11))
+
 -- b's digits, shifted up until the leading one stands at 2 ^ 52; z is the number of zeros before it in 64
 record Shifted (b z : ℕ) : Type 0 where
   pub least : 11 ≤ z
@@ -71,12 +77,7 @@ module _ (x : Float) (f : T (fits binary64 x)) (p : T (positive x)) where
       let s : unit_count binary64 x * 2 ^ 1074 ≡ (b % 2 ^ 52 + 2 ^ 52) * 2 ^ (b / 2 ^ 52 + 1073) = ap (λ (a : ℕ). a * 2 ^ 1074) (v.normal h) ∙ rw (mul_assoc, ← (pow-add 2 (b / 2 ^ 52 - 1) 1074), e) in
       record { low = omega arith; high = omega arith; least = omega arith; most = omega arith; size = s; root = (root_positive x p).2 ∙ ap root_units s }
 
-  pub record Small (z : ℕ) : Type 0 where
-    pub least : 11 ≤ z
-    pub most : z ≤ 63
-    pub scaled : Scaled x ((to_bits binary64 x * 2 ^ (z - 11)) % 2 ^ 64) (1074 - (z - 11))
-
-  pub scaled_small : to_bits binary64 x / 2 ^ 52 ≡ 0 → Small (count_leading_zeros 64 (to_bits binary64 x))
+  pub scaled_small : to_bits binary64 x / 2 ^ 52 ≡ 0 → Small x (count_leading_zeros 64 (to_bits binary64 x))
   scaled_small h =
       let b : ℕ = to_bits binary64 x in
       let e = fields_positive.small h in

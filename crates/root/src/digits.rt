@@ -10,9 +10,7 @@ pub(crate) fn digit_root(n: u64) -> u64
     let mut q: u64 = 0;
     let mut r: u64 = 0;
     let mut v = n;
-    let mut i: u64 = 53;
-    while i > 0 {
-        i -= 1;
+    for _ in 0..53u32 {
         r = 4 * r + v / 0x10_0000_0000_0000;
         v = v % 0x10_0000_0000_0000 * 4;
         if r > 4 * q {

@@ -26,12 +26,12 @@ fn root_of(n: u64) -> u64
     ensures { NearestWhole (n * 2 ^ 52) result }
 {
     let y = reciprocal_root(n);
-    let s = (product(n >> 22, y) >> 31) % 0x1_0000_0000;
+    let s = (product((n >> 22) as u32, y) >> 31) % 0x1_0000_0000;
     let square = s * s;
     if n * 1024 >= square {
         let rest = n * 1024 - square;
         if rest < 0x18_0000_0000 {
-            let d = product(rest >> 5, y) + 0x20_8000_0000 >> 38;
+            let d = product((rest >> 5) as u32, y) + 0x20_8000_0000 >> 38;
             if is_near(rest, s, d) {
                 return s * 0x20_0000 + d;
             }

@@ -4,6 +4,7 @@ ghost use Rattle.root.specs.Plane.{distance};
 
 use crate::root;
 
+#[tactic(auto, unfolding(crate::specs::Plane::distance))]
 pub fn distance(dx: f64, dy: f64) -> f64
     ensures { result ≡ distance dx dy }
 {

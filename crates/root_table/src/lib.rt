@@ -3,4 +3,24 @@
 
 mod table;
 
-pub use table::{constant, slopes};
+ghost use Rattle.std.specs.Prelude.{◌≡◌};
+ghost use Rattle.root_table.specs.Table.{cubic};
+
+use table::TABLE;
+
+// c0 - t (c1 - t (c2 - t c3)): the constant is c0, and the slopes are c1 * 2^32 + c2 * 2^13 + c3.
+#[derive(Clone, Copy)]
+pub struct Cubic {
+    pub constant: u32,
+    pub slopes: u64,
+}
+
+impl Cubic {
+    // The cubic of the key k, 64 to 255; a key below has the last.
+    pub fn at(k: u8) -> Self
+        ensures { result ≡ cubic k }
+    {
+        let (constant, slopes) = TABLE[k as usize];
+        Cubic { constant, slopes }
+    }
+}
