@@ -5,14 +5,12 @@ use mathlib.Core.Bool.{Bool, true, false}
 use mathlib.Core.List.{List}
 use mathlib.Core.Logic.{◌⊎◌, inl, inr}
 use native.Mathlib.Omega.{arith}
-use lib.Dec.{eqb}
-use borrow.Author.Tests.{eqb-true}
 use lib.Ieee.{Float}
 use Rattle.std.specs.Prelude.{Option, Some, None, Result, Ok, Err}
-use Rattle.refusals.specs.Refusals.{number_of, same_number}
 use Rattle.refusals.specs.declared.Refusal.{Refusal}
 use Rattle.refusals.specs.declared.Refusal.TheVariants.{OffTheMap}
 use Rattle.projection.specs.Answer.{Answer}
+use Rattle.projection.specs.AreaOfUse.{ensure_inside}
 use Rattle.projection.specs.Ends.{finish}
 use Rattle.projection.specs.declared.Frame.TheVariants as frame
 use Rattle.projection.proofs.OffTheMap.{off_if, inside_off, NeverOff, refused_never_off, inside_never_off}

@@ -8,7 +8,7 @@ mod second;
 ghost use Rattle.std.specs.Prelude.{◌≡◌};
 ghost use Rattle.projection.specs.OnTheMap.{OnTheMap};
 ghost use Rattle.projection.specs.InArea.{InArea};
-ghost use Rattle.kinds.specs.Kinds.{new, forward, formula, inverse, formula_in, inverse_in, with_area};
+ghost use Rattle.kinds.specs.Kinds.{plain, new, forward, formula, inverse, formula_in, inverse_in, with_area};
 
 use albers_equal_area::AlbersEqualArea;
 use american_polyconic::AmericanPolyconic;
