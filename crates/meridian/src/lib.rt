@@ -94,6 +94,7 @@ pub fn meridian_arc_coefficients(es: f64) -> [f64; 13]
 }
 
 // The arc from the equator to the latitude φ, in units of the semi-major axis.
+// The numbers stay an array: this function and its inverse take any thirteen, and a type with an invariant would ask more.
 pub fn meridian_arc(phi: f64, sin_phi: f64, cos_phi: f64, en: [f64; 13]) -> f64
     ensures { result ≡ meridian_arc phi sin_phi cos_phi en }
 {
