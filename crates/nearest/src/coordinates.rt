@@ -15,11 +15,5 @@ pub(crate) fn coordinate(x: f64) -> bool
 pub(crate) fn coordinates(list: &[f64]) -> bool
     ensures { result ≡ coordinates list.now }
 {
-    let mut good = true;
-    let mut i = 0;
-    while i < list.len() {
-        good = good & coordinate(list[i]);
-        i += 1;
-    }
-    good
+    list.iter().fold(true, |good, x| good & coordinate(*x))
 }
