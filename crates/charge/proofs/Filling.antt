@@ -1,18 +1,7 @@
--- Lists that are filled with one value, whole or in part.
+-- A list of zeros that is filled with one value in its first part, and with another in the next.
 use Rattle.std.proofs.Common.{◌≡◌, ℕ, zero, suc, ◌+◌, ◌-◌, ◌<◌, ◌≤◌, List, [], ◌∷◌, ◌++◌, length, take, drop, set, replicate, sym, refl, ap, ◌∙◌, add-one, arith, length-append, length-take-le, take_all, take-suc-set, take_at, drop_at}
 use lib.ListN.{length-replicate, replicate-append-replicate}
 use borrow.Rule.Slice.PartMut.{put_mid}
-
--- ---- by a loop
-
--- one place more
-pub filled_on : (l : List ℕ) (i v : ℕ) → i < length l → take i l ≡ replicate i v → take (i + 1) (set l i v) ≡ replicate (i + 1) v
-filled_on l i v h e = rw add-one (take-suc-set l i v h) ∙ ap (λ r. r ++ (v ∷ [])) e ∙ replicate-append-replicate i 1 v
-
-pub filled : (l : List ℕ) (n v : ℕ) → length l ≡ n → take n l ≡ replicate n v → l ≡ replicate n v
-filled l n v h e = sym (take_all n l (omega arith)) ∙ e
-
--- ---- in two parts, one after the other
 
 abbrev pub zeros : ℕ → List ℕ
 zeros n = replicate n 0
@@ -37,7 +26,7 @@ module _ (n r l a : ℕ) (f : List ℕ) (low : r ≤ l) (high : l ≤ n) (first 
   after : drop r (f ++ drop r (zeros n)) ≡ zeros (n - r)
   after = drop_at f (drop r (zeros n)) r long ∙ drop_zeros r n
 
-  pub still : l ≤ length (f ++ drop r (zeros n))
+  still : l ≤ length (f ++ drop r (zeros n))
   still = rw (length-append f (drop r (zeros n)), long, drop_zeros r n, length-replicate {A = ℕ} (n - r) 0) (omega arith)
 
   pub two_runs : (b : ℕ) (g : List ℕ) → g ≡ replicate (length (take (l - r) (drop r (f ++ drop r (zeros n))))) b

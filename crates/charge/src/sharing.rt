@@ -1,17 +1,6 @@
 // Each child's share of a charge.
-ghost use Rattle.std.specs.Prelude.{◌≡◌, ◌<◌, ◌≤◌, length, replicate};
+ghost use Rattle.std.specs.Prelude.{◌≡◌, ◌<◌, ◌≤◌};
 ghost use Rattle.charge.specs.Shares.{shares};
-
-// One value in every place.
-fn fill(list: &mut [u64], value: u64)
-    ensures { list.new ≡ replicate (length list.old) value }
-{
-    let mut i = 0;
-    while i < list.len() {
-        list[i] = value;
-        i += 1;
-    }
-}
 
 // As many of the first children pay one coin more as coins are left over.
 pub(crate) fn shares(charge: u64, children: u64) -> [u64; 60]
@@ -23,7 +12,7 @@ pub(crate) fn shares(charge: u64, children: u64) -> [u64; 60]
     let larger = rest as usize;
     let last = children as usize;
     let mut list = [0; 60];
-    fill(&mut list[..larger], share + 1);
-    fill(&mut list[larger..last], share);
+    list[..larger].fill(share + 1);
+    list[larger..last].fill(share);
     list
 }

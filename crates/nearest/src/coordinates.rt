@@ -11,15 +11,9 @@ pub(crate) fn coordinate(x: f64) -> bool
     (-FARTHEST <= x) & (x <= FARTHEST)
 }
 
-// Whether each is.
+// Whether each is. It is folded, and does not end at the first that is not good, so that the loop vectorises.
 pub(crate) fn coordinates(list: &[f64]) -> bool
     ensures { result ≡ coordinates list.now }
 {
-    let mut good = true;
-    let mut i = 0;
-    while i < list.len() {
-        good = good & coordinate(list[i]);
-        i += 1;
-    }
-    good
+    list.iter().fold(true, |good, x| good & coordinate(*x))
 }

@@ -1,18 +1,12 @@
--- Those so far are good, and the rest is to be looked at.
-use Prim.Native.Nat.{◌+◌}
-use mathlib.Core.Path.{sym, ap, ◌∙◌}
-use mathlib.Core.Bool.{◌&&◌}
-use native.Mathlib.Omega.{arith}
-use lib.ListN.{drop}
-use Rattle.nearest.specs.Nearest.{coordinates}
-use Rattle.nearest.proofs.Lists.{coordinates_on, coordinates_end}
+-- What is folded is the definition.
+use Rattle.std.proofs.Common.{◌∙◌, ◌&&◌, true, rules, tests}
+use Rattle.std.proofs.lemmas.Iterator.{YieldsList-from_slice}
+use Rattle.std.proofs.lemmas.Iterator.Consumers.{fold_from_yields_List}
+use Rattle.nearest.specs.Nearest.{coordinate}
+use Rattle.nearest.proofs.Lists.{coordinates_on}
 use Rattle.nearest.proofs.coordinates.coordinates.Goals as goal
 
-pub loop-i-preserved : goal.loop-i-preserved
-loop-i-preserved c =
-    let at = c.loop-i in
-    let l = c.args.list.now in
-    coordinates_on l at.i at.good (omega arith) at.invariant ∙ ap (λ x. (at.good && x) && coordinates (drop (at.i + 1) l)) (sym c.coordinate-good.ensures)
-
 pub returns : goal.returns
-returns c = coordinates_end _ _ _ c.loop-i-test.false c.loop-i.invariant
+returns c =
+    fold_from_yields_List _ (λ b x. b && coordinate x) true _ c.fold.ensures.ran (YieldsList-from_slice c.args.list.now (cc)) (λ a x b q k. search (rules, tests))
+    ∙ coordinates_on c.args.list.now true
