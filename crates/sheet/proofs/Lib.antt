@@ -1,5 +1,6 @@
 mod Digits
 mod Forms
+mod Numbers
 pub mod Lines
 mod Parts
 mod Starts

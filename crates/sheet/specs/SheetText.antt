@@ -1,5 +1,5 @@
 -- A whole sheet: its lines, and the text that answers it.
-use Rattle.std.specs.Prelude.{ℕ, List, [], ◌∷◌, ◌++◌, Bool, true, false, cond, ◌&&◌, ltb, eqb, length}
+use Rattle.std.specs.Prelude.{ℕ, List, [], ◌∷◌, ◌++◌, Bool, true, false, cond, ◌&&◌, ltb, eqb, length, Option, Some, None}
 use Rattle.refusals.specs.Refusals.{SHEET_SIZE, LINE_FORM}
 use Rattle.projection.specs.declared.Answer.{Answer}
 use Rattle.projection.specs.declared.Answer.TheVariants.{Refused}
@@ -8,12 +8,11 @@ use Rattle.letters.specs.Ascii.{ascii}
 use Rattle.sheet.specs.Fields.{before, after, joined}
 use Rattle.sheet.specs.ValueLine.{read_line}
 use Rattle.sheet.specs.AnswerLine.{answer_line}
-use Rattle.sheet.specs.declared.value_line.ValueLine.{ValueLine}
-use Rattle.sheet.specs.declared.value_line.ValueLine.TheVariants.{Values, Malformed}
+use Rattle.sheet.specs.declared.value_line.Values.{Values}
 
-abbrev pub answer_to : ValueLine → Answer
-answer_to (Values q) = project q.way q.kind q.a q.f q.settings q.u q.v
-answer_to Malformed = Refused LINE_FORM
+abbrev pub answer_to : Option Values → Answer
+answer_to (Some q) = project q.way q.kind q.a q.f q.settings q.u q.v
+answer_to None = Refused LINE_FORM
 
 -- the answer to a value line
 unfoldable pub answer : List ℕ → Answer
