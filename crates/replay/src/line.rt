@@ -3,7 +3,7 @@ ghost use Rattle.std.specs.Prelude.{◌<◌, ◌≤◌};
 
 use crate::scan::find;
 use float::f64_of;
-use sheet::{Hex, field, read_hex};
+use sheet::{field, read_hex};
 
 // The line without its comment, which starts at `#`, and without the blanks before that.
 pub(crate) fn uncommented(line: &[u8]) -> &[u8] {
@@ -34,10 +34,7 @@ pub(crate) fn answer(text: &[u8]) -> &[u8] {
 
 // Whether a field is a number's 16 digits.
 fn has_number(text: &[u8], i: usize) -> bool {
-    match read_hex(field(text, i)) {
-        Hex::Bits(_) => true,
-        Hex::Malformed => false,
-    }
+    read_hex(field(text, i)).is_some()
 }
 
 // Whether a text is so many fields of 16 digits, commas between.
@@ -54,10 +51,7 @@ pub(crate) fn is_in_form(text: &[u8], fields: usize) -> bool
 
 // The bits of a field; 0 where it has another form.
 pub(crate) fn bits_at(text: &[u8], i: usize) -> u64 {
-    match read_hex(field(text, i)) {
-        Hex::Bits(bits) => bits,
-        Hex::Malformed => 0,
-    }
+    read_hex(field(text, i)).unwrap_or(0)
 }
 
 // The number of a field, by its bits.

@@ -1,9 +1,9 @@
 // Points by the second inverse, which refuses those off the map.
-use crate::areas::{Edges, read_edges};
+use crate::areas::read_edges;
 use crate::reply::{Reply, of_answer};
 use kinds::{Projection, SecondInverse, build};
 use letters::Way;
-use sheet::{ValueLine, Values, read_line};
+use sheet::{Values, read_line};
 
 // A value line's length. After it may come the four edges, each a comma and 16 digits.
 const LINE: usize = 173;
@@ -34,8 +34,8 @@ fn of_values_in_area(values: Values, text: &[u8]) -> Reply {
     match way {
         Way::Forward => Reply::None,
         Way::Inverse => match read_edges(text) {
-            Edges::Read(area) => of_second(p.with_area(area), values.u, values.v),
-            Edges::Malformed => Reply::None,
+            Some(area) => of_second(p.with_area(area), values.u, values.v),
+            None => Reply::None,
         },
     }
 }
@@ -43,8 +43,8 @@ fn of_values_in_area(values: Values, text: &[u8]) -> Reply {
 // To a value line.
 pub(crate) fn of_click(text: &[u8]) -> Reply {
     match read_line(text) {
-        ValueLine::Values(values) => of_values(values),
-        ValueLine::Malformed => Reply::None,
+        Some(values) => of_values(values),
+        None => Reply::None,
     }
 }
 
@@ -52,8 +52,8 @@ pub(crate) fn of_click(text: &[u8]) -> Reply {
 pub(crate) fn of_click_in_area(text: &[u8]) -> Reply {
     if text.len() == LINE + 4 * 17 {
         match read_line(&text[0..LINE]) {
-            ValueLine::Values(values) => of_values_in_area(values, text),
-            ValueLine::Malformed => Reply::None,
+            Some(values) => of_values_in_area(values, text),
+            None => Reply::None,
         }
     } else {
         Reply::None

@@ -27,7 +27,7 @@ use crate::scan::find;
 use crate::schools::of_schools;
 use check::same;
 use float::f64_of;
-use sheet::{Hex, field, read_hex};
+use sheet::{field, read_hex};
 
 fn is_value_line(question: &[u8]) -> bool {
     let way = field(question, 0);
@@ -46,9 +46,9 @@ pub(crate) fn name(line: &[u8]) -> &[u8] {
 }
 
 // An argument of as many as a question has; 0 for one that it has not.
-fn argument(question: &[u8], i: usize, count: usize) -> Hex {
+fn argument(question: &[u8], i: usize, count: usize) -> Option<u64> {
     if count < i {
-        return Hex::Bits(0);
+        return Some(0);
     }
     read_hex(field(question, i))
 }
@@ -60,13 +60,13 @@ fn of_call(question: &[u8]) -> Reply {
         return Reply::None;
     }
     let count = size / 17;
-    let Hex::Bits(x) = argument(question, 1, count) else {
+    let Some(x) = argument(question, 1, count) else {
         return Reply::None;
     };
-    let Hex::Bits(y) = argument(question, 2, count) else {
+    let Some(y) = argument(question, 2, count) else {
         return Reply::None;
     };
-    let Hex::Bits(z) = argument(question, 3, count) else {
+    let Some(z) = argument(question, 3, count) else {
         return Reply::None;
     };
     match count {

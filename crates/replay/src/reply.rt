@@ -6,7 +6,7 @@ use check::same;
 use float::bits_of;
 use projection::Answer;
 use ring::{RingArea, ring_number, ring_points, ring_square};
-use sheet::{Hex, field, read_hex};
+use sheet::{field, read_hex};
 use std::io;
 
 // A number as its bits, a row of a sheet (the number of a refusal or 0, and two results as bits) or of a charge (the charge, and the
@@ -49,10 +49,7 @@ pub(crate) fn of_ring(answer: RingArea, buffers: u64) -> Reply {
 
 // Whether a text is a number's 16 digits.
 fn is_hex(text: &[u8], bits: u64) -> bool {
-    match read_hex(text) {
-        Hex::Bits(b) => b == bits,
-        Hex::Malformed => false,
-    }
+    read_hex(text) == Some(bits)
 }
 
 // Whether a text starts with a number, and has so many bytes after it. No refusal has a number of three digits.

@@ -2,13 +2,13 @@
 // a list that is longer has them again from the first. The value line has the lengths of both buffers in the place of its point.
 ghost use Rattle.std.specs.Prelude.{◌≡◌, ◌<◌, ◌≤◌, length};
 
-use crate::areas::{Edges, read_edges};
+use crate::areas::read_edges;
 use crate::line::number_of;
 use crate::reply::{Reply, of_ring};
 use float::{bits_of, f64_of};
 use kinds::{Projection, build};
 use ring::ring_area;
-use sheet::{Hex, ValueLine, Values, field, read_hex, read_line};
+use sheet::{Values, field, read_hex, read_line};
 
 // A value line's length and that of a field with its comma.
 const LINE: usize = 173;
@@ -41,13 +41,13 @@ pub(crate) fn whole(text: &[u8], i: usize, most: usize) -> usize
     ensures { result ≤ most }
 {
     match read_hex(field(text, i)) {
-        Hex::Bits(n) => {
+        Some(n) => {
             if n <= most as u64 {
                 return n as usize;
             }
             most
         }
-        Hex::Malformed => most,
+        None => most,
     }
 }
 
@@ -157,8 +157,8 @@ fn of_values_in_area(values: Values, text: &[u8]) -> Reply {
         let kind = values.kind;
         let p = build(kind, values.a, values.f, values.settings);
         return match read_edges(text) {
-            Edges::Read(area) => measured(p.with_area(area), text, 16, given),
-            Edges::Malformed => Reply::None,
+            Some(area) => measured(p.with_area(area), text, 16, given),
+            None => Reply::None,
         };
     }
     Reply::None
@@ -170,13 +170,13 @@ pub(crate) fn of_ring_line(text: &[u8], in_area: bool) -> Reply {
         return Reply::None;
     }
     match read_line(&text[0..LINE]) {
-        ValueLine::Values(values) => {
+        Some(values) => {
             if in_area {
                 of_values_in_area(values, text)
             } else {
                 of_values(values, text)
             }
         }
-        ValueLine::Malformed => Reply::None,
+        None => Reply::None,
     }
 }

@@ -6,7 +6,7 @@ use crate::line::number_of;
 use crate::reply::Reply;
 use crate::rings::{fill, whole};
 use nearest::nearest;
-use sheet::{Hex, field, read_hex};
+use sheet::{field, read_hex};
 
 // The bytes of six fields with five commas, and of a school's three with three.
 const HEAD: usize = 101;
@@ -31,10 +31,8 @@ fn positions() -> [u16; PLACES]
 }
 
 fn roll(text: &[u8], i: usize) -> u16 {
-    match read_hex(field(text, i)) {
-        Hex::Bits(n) => (n % 65536) as u16,
-        Hex::Malformed => 0,
-    }
+    let n = read_hex(field(text, i)).unwrap_or(0);
+    (n % 65536) as u16
 }
 
 // The rolls of so many schools, which are the fields after the pairs, again and again.
