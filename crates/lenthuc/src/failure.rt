@@ -28,7 +28,9 @@ pub(crate) fn message(failure: Option<Failure>) -> &'static [u8]
 {
     match failure {
         None => b"",
-        Some(Failure::Unread) => b"lenthuc: the sheet could not be read to its end\n",
-        Some(Failure::Unwritten) => b"lenthuc: the answers could not be written\n",
+        Some(failure) => match failure {
+            Failure::Unread => b"lenthuc: the sheet could not be read to its end\n",
+            Failure::Unwritten => b"lenthuc: the answers could not be written\n",
+        },
     }
 }

@@ -1,10 +1,14 @@
 -- A letter that names a kind, or 2.
 use Rattle.std.proofs.Common.{◌≡◌, ℕ, Bool, true, false, cond, Ok, Err, refl, ap}
-use Rattle.std.specs.Prelude.{Result}
+use Rattle.std.specs.Prelude.{Result, List, Float}
 use Rattle.letters.specs.declared.Kind.{Kind}
 use Rattle.letters.specs.declared.UnknownLetter.{UnknownLetter}
 use Rattle.letters.specs.Letters.{is_kind, kind_of, kind_from}
-use Rattle.capi.specs.Building.{build}
+use Rattle.refusals.specs.Refusals.{LINE_FORM}
+use Rattle.kinds.specs.Kinds as kinds
+use Rattle.kinds.specs.declared.Projection.{Projection}
+use Rattle.packing.specs.Packing.{at}
+use Rattle.capi.specs.Building.{settings, build}
 use Rattle.capi.proofs.building.build.Goals as goal
 
 module _ {A : Type 0} (f : Kind → A) (d : A) (b : ℕ) where
@@ -24,10 +28,13 @@ module _ {A : Type 0} (f : Kind → A) (d : A) (b : ℕ) where
       go true e = cc
       go false e = refl
 
+abbrev built : List Float → Kind → Projection
+built l k = kinds.build k (at l 0) (at l 1) (settings l)
+
 pub returns-in-Ok : goal.returns-in-Ok
 unfolding build
-returns-in-Ok c = rw c.build.ensures (named _ _ _ c.in-Ok.ensures)
+returns-in-Ok c = rw c.build.ensures (named (built c.args.s.now) (kinds.refused LINE_FORM) c.args.kind c.in-Ok.ensures)
 
 pub returns-in-Err : goal.returns-in-Err
 unfolding build
-returns-in-Err c = rw c.refused.ensures (unnamed _ _ _ c.in-Err.ensures)
+returns-in-Err c = rw c.refused.ensures (unnamed (built c.args.s.now) (kinds.refused LINE_FORM) c.args.kind c.in-Err.ensures)

@@ -1,4 +1,5 @@
 -- The bytes of each message are the definition's.
+use Rattle.std.proofs.Common.{Some, sym, ap, ◌∙◌}
 use Rattle.letters.specs.Ascii.{ascii}
 use Rattle.lenthuc.specs.Failure.{message}
 use Rattle.lenthuc.proofs.failure.message.Goals as goal
@@ -7,10 +8,10 @@ pub returns-in-None : goal.returns-in-None
 unfolding message
 returns-in-None c = rw c.in-None.is
 
-pub returns-in-Some-Unread : goal.returns-in-Some-Unread
+pub returns-in-Unread : goal.returns-in-Unread
 unfolding message ascii
-returns-in-Some-Unread c = rw (c.in-Some-Unread.is, c.in-Some-Unread.field-0-is)
+returns-in-Unread c = sym (ap message (c.in-Some.is ∙ ap Some c.in-Unread.is))
 
-pub returns-in-Some-Unwritten : goal.returns-in-Some-Unwritten
+pub returns-in-Unwritten : goal.returns-in-Unwritten
 unfolding message ascii
-returns-in-Some-Unwritten c = rw (c.in-Some-Unwritten.is, c.in-Some-Unwritten.field-0-is)
+returns-in-Unwritten c = sym (ap message (c.in-Some.is ∙ ap Some c.in-Unwritten.is))
