@@ -134,8 +134,7 @@ from_number-unlisted n h = go (is_unlisted n) refl
 
 -- a number says which refusal it is
 pub from_number-number_of : (r : Refusal) → from_number (number_of r) ≡ Some r
-from_number--- a number that was handed in
-number_of (refusal.Unlisted handed_in) = sym (from_number-unlisted handed_in.number handed_in.unlisted)
+from_number-number_of (refusal.Unlisted handed_in) = sym (from_number-unlisted handed_in.number handed_in.unlisted)
 from_number-number_of r = refl
 
 -- refusals with different numbers are different
