@@ -1,5 +1,5 @@
 -- From the test, the kilometres and the shares to the bill.
-use Rattle.std.proofs.Common.{◌≡◌, ℕ, ◌*◌, ◌≤◌, Bool, true, false, cond, not, List, sym, ap, ◌∙◌, mul-le-mul}
+use Rattle.std.proofs.Common.{◌≡◌, ℕ, ◌*◌, ◌≤◌, Bool, true, false, cond, not, List, Ok, sym, ap, ◌∙◌, mul-le-mul}
 use lib.Ieee.{Float}
 use Rattle.root.specs.Plane.{distance}
 use Rattle.root.proofs.NotNegative.{root_not_negative}
@@ -24,12 +24,12 @@ module _ (dx dy : Float) {d : Float} (is : d ≡ distance dx dy) (rate children 
 
   pub no_charge : good d rate children ≡ false → no_bill ≡ travel_charge dx dy rate children
   unfolding travel_charge
-  no_charge h = sym (ap (λ b. cond b no_bill (bill (kilometres d * rate) children)) (refuses h)) ∙ ap (λ x. charged x rate children) is
+  no_charge h = sym (ap (λ b. cond b no_bill (Ok (bill (kilometres d * rate) children))) (refuses h)) ∙ ap (λ x. charged x rate children) is
 
-  billed : {k : ℕ} {l : List ℕ} → k ≡ kilometres d → l ≡ shares (k * rate) children → record { number = 0; charge = k * rate; shares = l } ≡ bill (kilometres d * rate) children
+  billed : {k : ℕ} {l : List ℕ} → k ≡ kilometres d → l ≡ shares (k * rate) children → record { charge = k * rate; shares = l } ≡ bill (kilometres d * rate) children
   billed e f = rw (f, e)
 
-  pub charge_of : {k : ℕ} {l : List ℕ} → good d rate children ≡ true → k ≡ kilometres d → l ≡ shares (k * rate) children
-      → record { number = 0; charge = k * rate; shares = l } ≡ travel_charge dx dy rate children
+  pub a_charge : {k : ℕ} {l : List ℕ} → good d rate children ≡ true → k ≡ kilometres d → l ≡ shares (k * rate) children
+      → Ok (record { charge = k * rate; shares = l }) ≡ travel_charge dx dy rate children
   unfolding travel_charge
-  charge_of h e f = billed e f ∙ sym (ap (λ b. cond b no_bill (bill (kilometres d * rate) children)) (refuses h)) ∙ ap (λ x. charged x rate children) is
+  a_charge h e f = ap Ok (billed e f) ∙ sym (ap (λ b. cond b no_bill (Ok (bill (kilometres d * rate) children))) (refuses h)) ∙ ap (λ x. charged x rate children) is

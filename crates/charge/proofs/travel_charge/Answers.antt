@@ -1,7 +1,7 @@
 -- What passes the test is charged by its kilometres; what does not gets 31.
 use Rattle.std.proofs.Common.{◌*◌, ◌≤◌, arith}
 use Rattle.charge.proofs.Answerable.{Good, good_says}
-use Rattle.charge.proofs.Billed.{charge_low, not_negative, no_charge, charge_of}
+use Rattle.charge.proofs.Billed.{charge_low, not_negative, no_charge, a_charge}
 use Rattle.charge.proofs.travel_charge.Goals as goal
 
 pub kilometres-requires : goal.kilometres-requires
@@ -20,7 +20,7 @@ shares-requires c = let passed : (let s = c.args in Good c.distance-d.result s.r
 
 pub returns-then-good : goal.returns-then-good
 returns-then-good c = let s = c.args in
-    charge_of s.dx s.dy c.distance-d.ensures s.rate s.children c.if-good.true c.kilometres.ensures.0 c.shares.ensures
+    a_charge s.dx s.dy c.distance-d.ensures s.rate s.children c.if-good.true c.kilometres.ensures.0 c.shares.ensures
 
 pub returns-else-good : goal.returns-else-good
 returns-else-good c = let s = c.args in
