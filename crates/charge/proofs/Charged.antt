@@ -47,7 +47,7 @@ none_fair children = record {
 
 module _ (dx dy : Float) (rate children : ℕ) where
   good_of : {b : Bool} → refused (distance dx dy) rate children ≡ b → good (distance dx dy) rate children ≡ not b
-  good_of {b} e = back (good (distance dx dy) rate children) b (sym (answerable (distance dx dy) rate children (not_negative dx dy refl)) ∙ e)
+  good_of {b} e = back (good (distance dx dy) rate children) b (sym (answerable (distance dx dy) rate children (not_negative dx dy)) ∙ e)
     where
       back : (g b : Bool) → not g ≡ b → g ≡ not b
       back true true h = absurd (true≢false (sym h))
@@ -76,7 +76,7 @@ module _ (dx dy : Float) (rate children : ℕ) where
       go false e h = good_says (distance dx dy) rate children (good_of e)
 
   pub charge_is : Good (distance dx dy) rate children → Ok (bill (kilometres (distance dx dy) * rate) children) ≡ travel_charge dx dy rate children
-  charge_is g = a_charge dx dy refl rate children (good_from (distance dx dy) rate children g) refl refl
+  charge_is g = a_charge dx dy rate children (good_from (distance dx dy) rate children g) refl refl
 
   -- the least whole number of kilometres that reach the distance, times the rate
   pub bill_charge : number (travel_charge dx dy rate children) ≡ 0
@@ -84,4 +84,4 @@ module _ (dx dy : Float) (rate children : ℕ) where
   unfolding kilometres
   bill_charge h =
       let g = answered h in
-      (least_passes _ 1000 (reached (distance dx dy) (not_negative dx dy refl) g.near), sym (ap charge_of (charge_is g)))
+      (least_passes _ 1000 (reached (distance dx dy) (not_negative dx dy) g.near), sym (ap charge_of (charge_is g)))

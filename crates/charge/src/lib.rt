@@ -29,6 +29,7 @@ pub struct Bill {
 }
 
 // The charge of a way whose ends differ by dx and dy metres, at so many coins a started kilometre, divided among children.
+#[tactic(auto, using(crate::proofs::Billed::not_negative, crate::proofs::Billed::charge_low, crate::proofs::Billed::a_charge, crate::proofs::Billed::no_charge))]
 pub fn travel_charge(dx: f64, dy: f64, rate: u64, children: u64) -> Result<Bill, Refusal>
     ensures { result ≡ travel_charge dx dy rate children }
 {
