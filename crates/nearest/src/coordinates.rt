@@ -5,6 +5,7 @@ ghost use Rattle.nearest.specs.Nearest.{coordinate, coordinates};
 // A coordinate is at most this in size.
 const FARTHEST: f64 = 1e8;
 
+#[tactic(auto, unfolding(crate::specs::Nearest::coordinate))]
 pub(crate) fn coordinate(x: f64) -> bool
     ensures { result ≡ coordinate x }
 {
