@@ -11,7 +11,7 @@ pub(crate) fn coordinate(x: f64) -> bool
     (-FARTHEST <= x) & (x <= FARTHEST)
 }
 
-// Whether each is. It is folded, and does not end at the first that is not good, so that the loop vectorises.
+// Whether each is. It is folded, and does not end at the first that is not good: each is compared without a branch.
 pub(crate) fn coordinates(list: &[f64]) -> bool
     ensures { result ≡ coordinates list.now }
 {
