@@ -1,5 +1,5 @@
 -- From the corners and the way round to the answer.
-use Prim.Native.Nat.{ℕ, suc, ◌+◌, ◌≤◌}
+use Prim.Native.Nat.{ℕ, suc, ◌+◌, ◌<◌, ◌≤◌}
 use mathlib.Core.Path.{◌≡◌, refl, sym, ap, ◌∙◌}
 use mathlib.Core.Bool.{Bool, true, false, cond, ◌&&◌, and-eq-true_iff}
 use mathlib.Core.List.{List, [], ◌∷◌, ◌++◌, map}
@@ -17,7 +17,7 @@ use Rattle.std.specs.Result.{result_and}
 use Rattle.refusals.specs.declared.Refusal.{Refusal}
 use Rattle.refusals.specs.declared.Refusal.TheVariants.{RingForm, RingResult}
 use Rattle.refusals.proofs.Refused.{refused}
-use Rattle.projection.specs.Checks.{passed}
+use Rattle.projection.specs.Checks.{Check, passed}
 use Rattle.kinds.specs.declared.Built.{Built}
 use Rattle.kinds.specs.declared.Projection.{Projection}
 use Rattle.ring.specs.declared.edge.Point.{Point}
@@ -71,20 +71,35 @@ module _ (p : Projection) where
   from_none k (Ok a) (Err j) e = let h : j ≡ k = cc in ap Err h
   from_none k (Ok a) (Ok l) e = refused (sym e)
 
-  module _ (lon lat : List Float) (g : Sound (length lon) (length lat)) (r : Result Point Refusal) (e : r ≡ first_of (corners p lon lat)) where
+  -- lists and a projection that pass
+  module _ (lon lat : List Float) (n : Check) (e : n ≡ ring_fault p (length lon) (length lat)) (z : n ≡ passed) where
+    lists : Sound (length lon) (length lat)
+    lists = sound p _ _ (sym e ∙ z)
+
+    pub for_corners : (0 < length lon) × (length lat ≡ length lon)
+    for_corners = (omega (arith, lists.fewest), lists.even)
+
+    pub for_walk : (0 < length lon) × (length lon ≤ 4096) × (length lat ≡ length lon)
+    for_walk = (for_corners.0, lists.most, lists.even)
+
     apart : corners p lon lat ≡ before (place p (get_or lon 0 nan) (get_or lat 0 nan)) (corners p (drop 1 lon) (drop 1 lat))
-    apart = first_apart p lon lat nan (omega (arith, g.fewest)) g.even
+    apart = first_apart p lon lat nan for_corners.0 for_corners.1 _ _ refl refl
 
-    pub corners_refused : (k : Refusal) → r ≡ Err k → ring p lon lat ≡ Err k
-    unfolding ring
-    corners_refused k q = ap (closed p) apart ∙ from_none k (place p (get_or lon 0 nan) (get_or lat 0 nan)) (corners p (drop 1 lon) (drop 1 lat)) (ap first_of (sym apart) ∙ (sym e ∙ q))
+    module _ (r : Result Point Refusal) (f : r ≡ first_of (corners p lon lat)) where
+      pub corners_refused : (k : Refusal) → r ≡ Err k → ring p lon lat ≡ Err k
+      unfolding ring
+      corners_refused k q = ap (closed p) apart ∙ from_none k (place p (get_or lon 0 nan) (get_or lat 0 nan)) (corners p (drop 1 lon) (drop 1 lat)) (ap first_of (sym apart) ∙ (sym f ∙ q))
 
-    pub corners_sound : (first : Point) → r ≡ Ok first
-        → (answered (corners p (drop 1 lon) (drop 1 lat)) ≡ true) × (ring p lon lat ≡ before (Ok first) (rest p first lon lat))
-    unfolding ring
-    corners_sound first q =
-        let h = from_first first (place p (get_or lon 0 nan) (get_or lat 0 nan)) (corners p (drop 1 lon) (drop 1 lat)) (ap first_of (sym apart) ∙ (sym e ∙ q)) in
-        (h.0, ap (closed p) apart ∙ h.1)
+      module _ (first : Point) (q : r ≡ Ok first) where
+        both : (answered (corners p (drop 1 lon) (drop 1 lat)) ≡ true) × (closed p (before (place p (get_or lon 0 nan) (get_or lat 0 nan)) (corners p (drop 1 lon) (drop 1 lat))) ≡ before (Ok first) (rest p first lon lat))
+        both = from_first first (place p (get_or lon 0 nan) (get_or lat 0 nan)) (corners p (drop 1 lon) (drop 1 lat)) (ap first_of (sym apart) ∙ (sym f ∙ q))
+
+        pub others_answered : answered (corners p (drop 1 lon) (drop 1 lat)) ≡ true
+        others_answered = both.0
+
+        pub ring_whole : ring p lon lat ≡ before (Ok first) (rest p first lon lat)
+        unfolding ring
+        ring_whole = ap (closed p) apart ∙ both.1
 
 -- ---- the way round
 
@@ -125,14 +140,14 @@ round_done first t (Ok l) e =
 -- ---- the answer
 
 module _ (p : Projection) (lon lat : List Float) (eastings northings : ℕ) where
-  pub says_fault : (k : Refusal) → ring_fault p (length lon) (length lat) ≡ Err k → Err k ≡ ring_area p lon lat eastings northings
+  pub says_fault : (n : Check) (k : Refusal) → n ≡ ring_fault p (length lon) (length lat) → n ≡ Err k → Err k ≡ ring_area p lon lat eastings northings
   unfolding ring_area
-  says_fault k e = rw e refl
+  says_fault n k e z = rw (← e, z) refl
 
-  module _ (e : ring_fault p (length lon) (length lat) ≡ passed) where
+  module _ (n : Check) (e : n ≡ ring_fault p (length lon) (length lat)) (z : n ≡ passed) where
     judged_all : ring_area p lon lat eastings northings ≡ judged eastings northings (ring p lon lat)
     unfolding ring_area
-    judged_all = rw e refl
+    judged_all = rw (← e, z) refl
 
     pub says_refused : (k : Refusal) → ring p lon lat ≡ Err k → Err k ≡ ring_area p lon lat eastings northings
     says_refused k q = sym (judged_all ∙ ap (judged eastings northings) q)

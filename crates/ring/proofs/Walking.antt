@@ -7,7 +7,7 @@ use mathlib.Core.List.{List, ◌∷◌}
 use native.Mathlib.Omega.{arith}
 use lib.ListN.{length, drop, length-drop, set}
 use lib.Ieee.{Float}
-use Rattle.core.proofs.iter.Yields.{fronts}
+use Rattle.std.proofs.iter.Yields.{fronts}
 use Rattle.std.specs.Prelude.{Option, Some, None, Result, Ok, Err}
 use Rattle.std.specs.Iterator.Adapters.{zip_first, zip_second}
 use Rattle.std.specs.Slice.Iter.{iter_rest}
@@ -74,7 +74,7 @@ module _ (p : Projection) (s u : Pairs) (first : Point) (whole : Points) (es₀ 
 
   module _ (q : Bor Float × Bor Float) (e : r ≡ Some q) (d : Result Point Refusal) (f : d ≡ place p q.0.now q.1.now) where
     next : (c : Result Point Refusal) → d ≡ c → ahead p s ≡ before c (ahead p u)
-    next c g = corners_next p s u r h q e ∙ rw (← f, g) refl
+    next c g = corners_next p s u r h q e d c f g
 
     pub none_refused : (k : Refusal) → d ≡ Err k → ⊥
     none_refused k g = never_refused _ _ k (next (Err k) g) w.sound
