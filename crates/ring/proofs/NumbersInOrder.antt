@@ -1,6 +1,6 @@
 -- Which refusal comes before which.
 use Prim.Native.Nat.{ℕ}
-use mathlib.Core.Path.{◌≡◌, refl, ap, ◌∙◌}
+use mathlib.Core.Path.{◌≡◌, refl}
 use mathlib.Core.Bool.{false}
 use mathlib.Core.List.{List}
 use lib.ListN.{length}
@@ -13,7 +13,7 @@ use Rattle.refusals.specs.declared.Refusal.TheVariants.{RingForm}
 use Rattle.projection.specs.Checks.{passed}
 use Rattle.kinds.specs.Kinds.{built_number}
 use Rattle.kinds.specs.declared.Projection.{Projection}
-use Rattle.ring.specs.Ring.{ring, judged, keeps_areas, ring_fault, ring_area}
+use Rattle.ring.specs.Ring.{ring, keeps_areas, ring_fault, ring_area}
 
 after_built : {A B : Type 0} (q : Result A Refusal) (a : Result B Refusal) → number q ≡ 0 → result_and q a ≡ a
 after_built (Ok x) a z = refl

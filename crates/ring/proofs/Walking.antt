@@ -117,8 +117,3 @@ module _ (p : Projection) (s u : Pairs) (first : Point) (whole : Points) (es₀ 
               easts = λ new laid. w.easts new (rw next_edge (laid_join easting_of t v z es es₁ es₂ new (edge p DEPTH a b) b _ l_e i s_e j laid));
               norths = λ new laid. w.norths new (rw next_edge (laid_join northing_of t v z ns ns₁ ns₂ new (edge p DEPTH a b) b _ l_n i s_n j laid));
             }
-
--- ---- room for one edge more
-
-pub room : (n k : ℕ) → k + 1024 * n ≤ 4194304 → k + 1024 ≤ 16777216
-room n k h = omega arith

@@ -37,7 +37,10 @@ const MOST: usize = 4096;
 fn keeps_areas(built: Result<Built, Refusal>) -> bool
     ensures { result ≡ keeps_areas built }
 {
-    matches!(built, Ok(Built::Lambert(_) | Built::Albers(_) | Built::Equal(_)))
+    matches!(
+        built,
+        Ok(Built::Lambert(_) | Built::Albers(_) | Built::Equal(_))
+    )
 }
 
 // A projection that was refused by its own number, before 27.

@@ -1,5 +1,5 @@
 -- The first fault; or the points' own refusal; or the area and both buffers, once nothing more can be refused.
-use mathlib.Core.Path.{◌≡◌, refl, sym, ◌∙◌}
+use mathlib.Core.Path.{refl, sym, ◌∙◌}
 use mathlib.Core.Bool.{true, false}
 use Rattle.refusals.proofs.Refused.{handed_on}
 use Rattle.ring.specs.Edge.{easting_of, northing_of}

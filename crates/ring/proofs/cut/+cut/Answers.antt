@@ -1,11 +1,10 @@
 -- The edge is its two halves and the point between them; each half has one cut less left.
 use Prim.Native.Nat.{◌-◌}
-use mathlib.Core.Path.{◌≡◌, sym, ap, ◌∙◌}
+use mathlib.Core.Path.{sym, ap, ◌∙◌}
 use native.Mathlib.Omega.{arith}
-use Rattle.std.specs.Prelude.{Ok, Err}
+use Rattle.std.specs.Prelude.{Ok}
 use Rattle.refusals.proofs.Refused.{handed_on}
-use Rattle.ring.specs.Edge.{edge, easting_of, northing_of}
-use Rattle.ring.specs.Tally.{walked}
+use Rattle.ring.specs.Edge.{easting_of, northing_of}
 use Rattle.ring.specs.declared.tally.Tally.{Tally}
 use Rattle.ring.proofs.Edges as edges
 use Rattle.ring.proofs.Counting as counting

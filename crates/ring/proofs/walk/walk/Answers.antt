@@ -13,9 +13,6 @@ loop-x-init c =
 pub returns-in_err-b : goal.returns-in_err-b
 returns-in_err-b c = absurd (walking.none_refused _ _ c.next.new.self _ _ _ _ _ _ _ _ c.loop-x.invariant _ c.next.ensures.steps _ c.in-Some.is _ c.place.ensures _ c.in_err-b.was)
 
-pub cut-requires : goal.cut-requires
-cut-requires c = walking.room _ _ c.loop-x.invariant.few
-
 pub returns-in_err-u : goal.returns-in_err-u
 returns-in_err-u c = let start = c.start-t.ensures in
     let stopped = sym c.cut.ensures.value ∙ c.in_err-u.was in
@@ -33,9 +30,6 @@ pub loop-x-preserved : goal.loop-x-preserved
 loop-x-preserved c = let one = c.count-t.ensures in
     walking.goes_round _ _ c.next.new.self _ _ _ _ _ _ _ _ c.loop-x.invariant _ c.next.ensures.steps _ c.in-Some.is _ c.place.ensures _ c.in_ok-b.was _ _ _ _ _ _ (sym c.cut.ensures.value ∙ c.in_ok-u.was) one.value
     c.cut.ensures.easting_laid one.easting_after c.cut.ensures.northing_laid one.northing_after
-
-pub cut-requires-2 : goal.cut-requires-2
-cut-requires-2 c = walking.room _ _ c.loop-x.invariant.few
 
 pub returns : goal.returns
 returns c = let start = c.start-t.ensures in

@@ -1,5 +1,4 @@
 -- What is ahead, with what is done, is the whole; at the end nothing is ahead but the last edge.
-use lib.ListN.{length}
 use Rattle.ring.specs.Tally.{rest}
 use Rattle.ring.proofs.Walking.{Walking}
 use Rattle.ring.proofs.walk.walk.Given as goal
