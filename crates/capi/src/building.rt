@@ -5,7 +5,7 @@ ghost use Rattle.packing.specs.Packing.{unpacked};
 ghost use Rattle.capi.specs.Building.{build, build_in_area};
 
 use kinds::Projection;
-use letters::{is_kind, kind_of};
+use letters::Kind;
 use packing::packed;
 use projection::{Area, Settings};
 use refusals::{Refusal, number};
@@ -14,18 +14,17 @@ use refusals::{Refusal, number};
 fn build(kind: u8, s: &[f64; 8]) -> Projection
     ensures { result ≡ build kind s.now }
 {
-    if is_kind(kind) {
-        let settings = Settings {
-            lon0: s[2],
-            lat0: s[3],
-            lat1: s[4],
-            lat2: s[5],
-            false_easting: s[6],
-            false_northing: s[7],
-        };
-        kinds::build(kind_of(kind), s[0], s[1], settings)
-    } else {
-        kinds::refused(Refusal::LineForm)
+    let settings = Settings {
+        lon0: s[2],
+        lat0: s[3],
+        lat1: s[4],
+        lat2: s[5],
+        false_easting: s[6],
+        false_northing: s[7],
+    };
+    match Kind::try_from(kind) {
+        Ok(kind) => kinds::build(kind, s[0], s[1], settings),
+        Err(_) => kinds::refused(Refusal::LineForm),
     }
 }
 

@@ -1,20 +1,20 @@
 -- What holds of every bill, whatever is handed in.
-use Rattle.std.proofs.Common.{◌≡◌, ℕ, zero, suc, ◌*◌, ◌/◌, ◌^◌, ◌≤◌, Bool, true, false, cond, not, replicate, sym, refl, ap, ◌∙◌, true≢false, zero-le, mul-le-mul_right, zero-mul, arith, le-leb}
+use Rattle.std.proofs.Common.{◌≡◌, ℕ, zero, suc, ◌*◌, ◌/◌, ◌^◌, ◌≤◌, Bool, true, false, cond, not, replicate, Ok, sym, refl, ap, ◌∙◌, true≢false, zero-le, mul-le-mul_right, zero-mul, arith, le-leb}
 use native.Mathlib.Nat.{div-le_of_le-mul}
 use lib.Ieee.{Float, nan, inf, fin, lt, le, eq, of_bits, up, down}
 use Rattle.root.specs.Plane.{distance}
 use Rattle.float.specs.Units.{unit_count}
 use Rattle.float.specs.Constants.{+0}
 use Rattle.float.specs.Operators.{◌≺◌, ◌≼◌}
-use Rattle.charge.specs.declared.Bill.{Bill}
+use Rattle.refusals.specs.Refusals.{number}
 use Rattle.charge.specs.Least.{Least}
 use Rattle.charge.specs.Kilometres.{reaches, kilometres}
-use Rattle.charge.specs.Charge.{FARTHEST, refused, no_bill, bill, travel_charge}
+use Rattle.charge.specs.Charge.{FARTHEST, refused, no_bill, bill, travel_charge, charge_of, shares_of}
 use Rattle.charge.specs.Fair.{Fair}
 use Rattle.charge.proofs.CountingUp.{least_passes}
 use Rattle.charge.proofs.WholePart.{at_most, below_zero}
 use Rattle.charge.proofs.Answerable.{good, Good, good_says, good_from, answerable}
-use Rattle.charge.proofs.Billed.{not_negative, charge_of}
+use Rattle.charge.proofs.Billed.{not_negative, a_charge}
 use Rattle.charge.proofs.FairShares.{fair, getD_zeros}
 
 -- ---- 1,000 km reach every distance that is charged
@@ -47,7 +47,7 @@ none_fair children = record {
 
 module _ (dx dy : Float) (rate children : ℕ) where
   good_of : {b : Bool} → refused (distance dx dy) rate children ≡ b → good (distance dx dy) rate children ≡ not b
-  good_of {b} e = back (good (distance dx dy) rate children) b (sym (answerable (distance dx dy) rate children (not_negative dx dy refl)) ∙ e)
+  good_of {b} e = back (good (distance dx dy) rate children) b (sym (answerable (distance dx dy) rate children (not_negative dx dy)) ∙ e)
     where
       back : (g b : Bool) → not g ≡ b → g ≡ not b
       back true true h = absurd (true≢false (sym h))
@@ -55,33 +55,33 @@ module _ (dx dy : Float) (rate children : ℕ) where
       back false true h = refl
       back false false h = absurd (true≢false h)
 
-  pub bill_fair : Fair (travel_charge dx dy rate children).charge children (travel_charge dx dy rate children).shares
+  pub bill_fair : Fair (charge_of (travel_charge dx dy rate children)) children (shares_of (travel_charge dx dy rate children))
   unfolding travel_charge
   bill_fair = go (refused (distance dx dy) rate children) refl
     where
       go : (b : Bool) → refused (distance dx dy) rate children ≡ b
-          → (let r = cond b no_bill (bill (kilometres (distance dx dy) * rate) children) in Fair r.charge children r.shares)
+          → (let r = cond b no_bill (Ok (bill (kilometres (distance dx dy) * rate) children)) in Fair (charge_of r) children (shares_of r))
       go true e = none_fair children
       go false e = let g = good_says (distance dx dy) rate children (good_of e) in fair (kilometres (distance dx dy) * rate) children g.some g.few
 
   -- ---- what is answered
 
-  pub answered : (travel_charge dx dy rate children).number ≡ 0 → Good (distance dx dy) rate children
+  pub answered : number (travel_charge dx dy rate children) ≡ 0 → Good (distance dx dy) rate children
   unfolding travel_charge
   answered = go (refused (distance dx dy) rate children) refl
     where
       go : (b : Bool) → refused (distance dx dy) rate children ≡ b
-          → (cond b no_bill (bill (kilometres (distance dx dy) * rate) children)).number ≡ 0 → Good (distance dx dy) rate children
+          → number (cond b no_bill (Ok (bill (kilometres (distance dx dy) * rate) children))) ≡ 0 → Good (distance dx dy) rate children
       go true e h = absurd (omega arith)
       go false e h = good_says (distance dx dy) rate children (good_of e)
 
-  pub charge_is : Good (distance dx dy) rate children → bill (kilometres (distance dx dy) * rate) children ≡ travel_charge dx dy rate children
-  charge_is g = charge_of dx dy refl rate children (good_from (distance dx dy) rate children g) refl refl
+  pub charge_is : Good (distance dx dy) rate children → Ok (bill (kilometres (distance dx dy) * rate) children) ≡ travel_charge dx dy rate children
+  charge_is g = a_charge dx dy rate children (good_from (distance dx dy) rate children g) refl refl
 
   -- the least whole number of kilometres that reach the distance, times the rate
-  pub bill_charge : (travel_charge dx dy rate children).number ≡ 0
-      → Least (λ k. reaches (distance dx dy) (1000 * k)) (kilometres (distance dx dy)) × ((travel_charge dx dy rate children).charge ≡ kilometres (distance dx dy) * rate)
+  pub bill_charge : number (travel_charge dx dy rate children) ≡ 0
+      → Least (λ k. reaches (distance dx dy) (1000 * k)) (kilometres (distance dx dy)) × (charge_of (travel_charge dx dy rate children) ≡ kilometres (distance dx dy) * rate)
   unfolding kilometres
   bill_charge h =
       let g = answered h in
-      (least_passes _ 1000 (reached (distance dx dy) (not_negative dx dy refl) g.near), sym (ap (λ (b : Bill). b.charge) (charge_is g)))
+      (least_passes _ 1000 (reached (distance dx dy) (not_negative dx dy) g.near), sym (ap charge_of (charge_is g)))

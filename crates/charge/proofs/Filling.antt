@@ -1,6 +1,6 @@
 -- A list of zeros that is filled with one value in its first part, and with another in the next.
-use Rattle.std.proofs.Common.{◌≡◌, ℕ, zero, suc, ◌+◌, ◌-◌, ◌<◌, ◌≤◌, List, [], ◌∷◌, ◌++◌, length, take, drop, set, replicate, sym, refl, ap, ◌∙◌, add-one, arith, length-append, length-take-le, take_all, take-suc-set, take_at, drop_at}
-use lib.ListN.{length-replicate, replicate-append-replicate}
+use Rattle.std.proofs.Common.{◌≡◌, ℕ, zero, suc, ◌-◌, ◌≤◌, List, ◌++◌, length, take, drop, replicate, refl, ap, ◌∙◌, arith, length-append, length-take-le, take_at, drop_at}
+use lib.ListN.{length-replicate}
 use borrow.Rule.Slice.PartMut.{put_mid}
 
 abbrev pub zeros : ℕ → List ℕ

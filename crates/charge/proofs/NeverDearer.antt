@@ -17,9 +17,9 @@ use Rattle.float.proofs.Finite.{finite_of}
 use Rattle.float.proofs.Comparison.{le_units}
 use Rattle.float.proofs.SizeBound.{le_positive}
 use Rattle.float.proofs.NeverNan.{squares_not_negative}
-use Rattle.charge.specs.declared.Bill.{Bill}
+use Rattle.refusals.specs.Refusals.{number}
 use Rattle.charge.specs.Kilometres.{reaches, kilometres}
-use Rattle.charge.specs.Charge.{FARTHEST, travel_charge}
+use Rattle.charge.specs.Charge.{FARTHEST, travel_charge, charge_of}
 use Rattle.charge.proofs.CountingUp.{least_passes}
 use Rattle.charge.proofs.WholePart.{metre, at_most, below_zero, farthest_units}
 use Rattle.charge.proofs.Charged.{reached, answered, charge_is, bill_charge}
@@ -124,8 +124,8 @@ nearer (fin false (suc m) e) (fin false (suc n) d) f g h k l near =
 
 -- ---- the charge
 
-pub never_dearer : (dx dy ex ey : Float) (rate children : ℕ) → ((dx ⊗ dx ⊕ dy ⊗ dy) ≼ (ex ⊗ ex ⊕ ey ⊗ ey)) ≡ true → (travel_charge ex ey rate children).number ≡ 0
-    → ((travel_charge dx dy rate children).number ≡ 0) × ((travel_charge dx dy rate children).charge ≤ (travel_charge ex ey rate children).charge)
+pub never_dearer : (dx dy ex ey : Float) (rate children : ℕ) → ((dx ⊗ dx ⊕ dy ⊗ dy) ≼ (ex ⊗ ex ⊕ ey ⊗ ey)) ≡ true → number (travel_charge ex ey rate children) ≡ 0
+    → (number (travel_charge dx dy rate children) ≡ 0) × (charge_of (travel_charge dx dy rate children) ≤ charge_of (travel_charge ex ey rate children))
 unfolding distance
 never_dearer dx dy ex ey rate children l h =
     let g = answered ex ey rate children h in
@@ -136,4 +136,4 @@ never_dearer dx dy ex ey rate children l h =
     g.near in
     let c = charge_is dx dy rate children (record { rate_low = g.rate_low; some = g.some; few = g.few; near = n.near }) in
     let k = kilometres_rise (root x) (root y) n.units (reached (root y) (root_not_negative y) g.near) in
-    (sym (ap (λ (b : Bill). b.number) c), rw (← ap (λ (b : Bill). b.charge) c, (bill_charge ex ey rate children h).1) (mul-le-mul_right rate k))
+    (sym (ap number c), rw (← ap charge_of c, (bill_charge ex ey rate children h).1) (mul-le-mul_right rate k))

@@ -1,13 +1,15 @@
 -- What document 02 and its readings say of the travel charge, at the edges: a theorem by computation for each case.
-use Rattle.std.specs.Prelude.{◌≡◌, ℕ, ◌+◌, ◌^◌, true, false, List, [], ◌∷◌, ◌++◌, replicate, refl, Float}
+use Rattle.std.specs.Prelude.{◌≡◌, ℕ, ◌+◌, ◌^◌, true, false, List, [], ◌∷◌, ◌++◌, replicate, refl, Float, Result, Ok}
 use Rattle.std.specs.Float.{nan, inf}
 use Rattle.std.specs.Float.Ieee.{neg}
 use Rattle.float.specs.Operators.{◌⊕◌, ◌⊗◌, ◌≺◌, f64}
 use Rattle.float.specs.Constants.{+0, ratio}
 use Rattle.root.specs.Plane.{distance}
+use Rattle.refusals.specs.declared.Refusal.{Refusal}
+use Rattle.refusals.specs.Refusals.{number}
 use Rattle.charge.specs.declared.Bill.{Bill}
 use Rattle.charge.specs.Kilometres.{kilometres}
-use Rattle.charge.specs.Charge.{FARTHEST, no_bill, travel_charge}
+use Rattle.charge.specs.Charge.{FARTHEST, no_bill, travel_charge, charge_of, shares_of}
 use Rattle.charge.specs.Opened.{opened}
 
 abbrev metres : ℕ → Float
@@ -55,31 +57,31 @@ root_above = refl
 -- ---- whole bills
 
 -- 3 km at 45 coins, for two and for four children
-pub for_two : travel_charge (metres 2100) +0 45 2 ≡ record { number = 0; charge = 135; shares = 68 ∷ 67 ∷ replicate 58 0 }
+pub for_two : travel_charge (metres 2100) +0 45 2 ≡ Ok (record { charge = 135; shares = 68 ∷ 67 ∷ replicate 58 0 })
 unfolding opened
 for_two = refl
 
-pub for_four : travel_charge (metres 2100) +0 45 4 ≡ record { number = 0; charge = 135; shares = 34 ∷ 34 ∷ 34 ∷ 33 ∷ replicate 56 0 }
+pub for_four : travel_charge (metres 2100) +0 45 4 ≡ Ok (record { charge = 135; shares = 34 ∷ 34 ∷ 34 ∷ 33 ∷ replicate 56 0 })
 unfolding opened
 for_four = refl
 
 -- fewer coins than children
-pub too_few_coins : travel_charge (metres 1) +0 2 5 ≡ record { number = 0; charge = 2; shares = 1 ∷ 1 ∷ replicate 58 0 }
+pub too_few_coins : travel_charge (metres 1) +0 2 5 ≡ Ok (record { charge = 2; shares = 1 ∷ 1 ∷ replicate 58 0 })
 unfolding opened
 too_few_coins = refl
 
 -- the highest rate, the most children, the longest distance
-pub highest : travel_charge (metres 1000000) +0 1000000 60 ≡ record { number = 0; charge = 10 ^ 9; shares = replicate 40 16666667 ++ replicate 20 16666666 }
+pub highest : travel_charge (metres 1000000) +0 1000000 60 ≡ Ok (record { charge = 10 ^ 9; shares = replicate 40 16666667 ++ replicate 20 16666666 })
 unfolding opened
 highest = refl
 
-pub no_rate : travel_charge (metres 5000) +0 0 3 ≡ record { number = 0; charge = 0; shares = replicate 60 0 }
+pub no_rate : travel_charge (metres 5000) +0 0 3 ≡ Ok (record { charge = 0; shares = replicate 60 0 })
 unfolding opened
 no_rate = refl
 
 -- ---- 31
 
-abbrev bills : List Bill
+abbrev bills : List (Result Bill Refusal)
 bills =
     travel_charge (metres 1) +0 1000001 1 ∷ travel_charge (metres 1) +0 (2 ^ 32 + 1) 1
     ∷ travel_charge (metres 1) +0 1 0 ∷ travel_charge (metres 1) +0 1 61 ∷ travel_charge (metres 1) +0 1 (2 ^ 32 + 1)
@@ -91,3 +93,6 @@ bills =
 pub refusals : bills ≡ replicate 12 no_bill
 unfolding opened
 refusals = refl
+
+pub of_a_refusal : (number no_bill ≡ 31) × (charge_of no_bill ≡ 0) × (shares_of no_bill ≡ replicate 60 0)
+of_a_refusal = (refl, refl, refl)

@@ -7,7 +7,7 @@ mod answers;
 mod failure;
 
 use answers::{INPUT, answer_input};
-use failure::{Failure, MESSAGE, put_message, read_failure, write_failure};
+use failure::{Failure, message, read_failure, write_failure};
 use sheet::ROOM;
 use std::io::{Read, Write};
 
@@ -24,13 +24,12 @@ fn output_buffer() -> [u8; ROOM]
 }
 
 // What failed is told on standard error alone: the exit status stays 0. Where that cannot be written either, nothing is left to do.
-fn say(told: &mut impl Write, failure: Failure) {
-    let mut text: [u8; MESSAGE] = [0; MESSAGE];
-    let n = put_message(&mut text, failure);
-    let _ = told.write_all(&text[..n]);
+fn say(told: &mut impl Write, failure: Option<Failure>) {
+    let _ = told.write_all(message(failure));
 }
 
-// What was read of a sheet: so many bytes, and whether more than those stood there or could not be read.
+// What was read of a sheet: so many bytes, and whether more than those stood there or could not be read. No Option: what was read is
+// answered in both cases.
 #[derive(Clone, Copy)]
 struct Reading {
     count: usize,

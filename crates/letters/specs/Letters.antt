@@ -1,9 +1,10 @@
 -- A way and a kind by their letters on a sheet.
-use Rattle.std.specs.Prelude.{ℕ, List, [], ◌∷◌, Bool, false, cond, ◌||◌, eqb}
+use Rattle.std.specs.Prelude.{ℕ, List, [], ◌∷◌, Bool, false, cond, ◌||◌, eqb, Result, Ok, Err}
 use Prim.Native.Char.{code}
 use Rattle.letters.specs.Ascii.{ascii}
 use Rattle.letters.specs.declared.Kind.{Kind}
 use Rattle.letters.specs.declared.Kind.TheVariants.{L, S, A, E, C, P, G}
+use Rattle.letters.specs.declared.UnknownLetter.{UnknownLetter}
 use Rattle.letters.specs.declared.Way.{Way}
 use Rattle.letters.specs.declared.Way.TheVariants.{Forward, Inverse}
 
@@ -26,3 +27,11 @@ unfoldable pub kind_of : ℕ → Kind
 kind_of b =
     cond (eqb b (code "L")) L (cond (eqb b (code "S")) S (cond (eqb b (code "A")) A
     (cond (eqb b (code "E")) E (cond (eqb b (code "C")) C (cond (eqb b (code "P")) P G)))))
+
+-- ---- what a letter on a sheet names, or that it names none
+
+unfoldable pub way_from : ℕ → Result Way UnknownLetter
+way_from b = cond (is_way b) (Ok (way_of b)) (Err (record { 0 = b }))
+
+unfoldable pub kind_from : ℕ → Result Kind UnknownLetter
+kind_from b = cond (is_kind b) (Ok (kind_of b)) (Err (record { 0 = b }))

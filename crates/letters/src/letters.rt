@@ -1,49 +1,38 @@
 // A way and a kind by their letters on a sheet.
 ghost use Rattle.std.specs.Prelude.{◌≡◌};
-ghost use Rattle.letters.specs.Letters.{is_way, is_kind, way_of, kind_of};
+ghost use Rattle.letters.specs.Letters.{way_from, kind_from};
 
-use crate::{Kind, Way};
+use crate::{Kind, UnknownLetter, Way};
 
-pub fn is_way(b: u8) -> bool
-    ensures { result ≡ is_way b }
-{
-    match b {
-        b'F' | b'I' => true,
-        _ => false,
+impl TryFrom<u8> for Way {
+    type Error = UnknownLetter;
+
+    ghost try_from_gives = { λ letter r. r ≡ way_from letter };
+
+    fn try_from(letter: u8) -> Result<Self, UnknownLetter> {
+        match letter {
+            b'F' => Ok(Way::Forward),
+            b'I' => Ok(Way::Inverse),
+            _ => Err(UnknownLetter(letter)),
+        }
     }
 }
 
-pub fn is_kind(b: u8) -> bool
-    ensures { result ≡ is_kind b }
-{
-    match b {
-        b'L' | b'S' | b'A' | b'E' | b'C' | b'P' | b'G' => true,
-        _ => false,
-    }
-}
+impl TryFrom<u8> for Kind {
+    type Error = UnknownLetter;
 
-// F forward; any other letter inverse.
-pub fn way_of(b: u8) -> Way
-    ensures { result ≡ way_of b }
-{
-    if b == b'F' {
-        Way::Forward
-    } else {
-        Way::Inverse
-    }
-}
+    ghost try_from_gives = { λ letter r. r ≡ kind_from letter };
 
-// The kind by its letter; G for any other letter.
-pub fn kind_of(b: u8) -> Kind
-    ensures { result ≡ kind_of b }
-{
-    match b {
-        b'L' => Kind::L,
-        b'S' => Kind::S,
-        b'A' => Kind::A,
-        b'E' => Kind::E,
-        b'C' => Kind::C,
-        b'P' => Kind::P,
-        _ => Kind::G,
+    fn try_from(letter: u8) -> Result<Self, UnknownLetter> {
+        match letter {
+            b'L' => Ok(Kind::L),
+            b'S' => Ok(Kind::S),
+            b'A' => Ok(Kind::A),
+            b'E' => Ok(Kind::E),
+            b'C' => Ok(Kind::C),
+            b'P' => Ok(Kind::P),
+            b'G' => Ok(Kind::G),
+            _ => Err(UnknownLetter(letter)),
+        }
     }
 }

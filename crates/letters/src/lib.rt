@@ -4,17 +4,16 @@
 mod letters;
 mod uses;
 
-pub use letters::{is_kind, is_way, kind_of, way_of};
 pub use uses::used;
 
-#[derive(Clone, Copy)]
+#[derive(Clone, Copy, Debug, PartialEq, Eq)]
 pub enum Way {
     Forward,
     Inverse,
 }
 
 // 01's kind, by its letter: L Lambert, S its spherical form, A Albers, E Equal Earth, C Cassini, P polyconic, G Guam.
-#[derive(Clone, Copy)]
+#[derive(Clone, Copy, Debug, PartialEq, Eq)]
 pub enum Kind {
     L,
     S,
@@ -24,3 +23,7 @@ pub enum Kind {
     P,
     G,
 }
+
+// A letter that names no way, or no kind.
+#[derive(Clone, Copy, Debug, PartialEq, Eq)]
+pub struct UnknownLetter(pub u8);

@@ -1,52 +1,44 @@
 -- What a mark at place 0 says.
 use Prim.Native.Nat.{ℕ, ◌<◌}
 use mathlib.Core.Path.{◌≡◌, refl, sym, ◌∙◌, subst}
-use mathlib.Core.Bool.{Bool, true, false, not, ◌&&◌, and-eq-true_iff}
+use mathlib.Core.Bool.{Bool, false, not}
 use mathlib.Core.List.{List}
 use native.Mathlib.Omega.{arith}
 use native.Mathlib.Nat.{mod-eq_of_lt}
-use borrow.Author.Tests.{ltb-true, lt-ltb, le-ltb, ne_eqb}
-use mir.Val.{Fits}
-use mir.Syntax.{w8}
-use lib.Dec.{ltb, T}
+use borrow.Author.Tests.{lt-ltb, le-ltb, ne_eqb}
+use lib.Dec.{T}
 use lib.Ieee.{Float, binary64, to_bits, of_bits, is_nan}
 use lib.Ieee.Bits.{to_bits-of_bits, nan_bits_is, nan_bits_above}
 use Rattle.std.specs.Prelude.{Ok, Err}
 use Rattle.float.specs.Operators.{f64}
 use Rattle.refusals.specs.Refusals.{number_of, number_of-byte, from_number-number_of}
 use Rattle.refusals.specs.declared.Refusal.{Refusal}
-use Rattle.lambert_azimuthal_equal_area.specs.declared.LambertAzimuthalEqualArea.{LambertAzimuthalEqualArea}
-use Rattle.albers_equal_area.specs.declared.AlbersEqualArea.{AlbersEqualArea}
-use Rattle.equal_earth.specs.declared.EqualEarth.{EqualEarth}
-use Rattle.cassini_soldner.specs.declared.CassiniSoldner.{CassiniSoldner}
-use Rattle.american_polyconic.specs.declared.AmericanPolyconic.{AmericanPolyconic}
-use Rattle.guam_projection.specs.declared.GuamProjection.{GuamProjection}
 use Rattle.kinds.specs.declared.Built.TheVariants.{Lambert, Albers, Equal, Cassini, Polyconic, Guam}
 use Rattle.packing.specs.Packing.{at, lambert_of, albers_of, equal_earth_of, cassini_of, polyconic_of, guam_of, refusal_of, marked, built_of}
 
-pub lambert_marked : (l : List Float) (p : LambertAzimuthalEqualArea) → at l 0 ≡ f64 332 → lambert_of l ≡ p → built_of l ≡ Ok (Lambert p)
+pub lambert_marked : (l : List Float) → at l 0 ≡ f64 332 → built_of l ≡ Ok (Lambert (lambert_of l))
 unfolding built_of marked to_bits of_bits
-lambert_marked l p h e = rw (h, e) refl
+lambert_marked l h = rw h refl
 
-pub albers_marked : (l : List Float) (p : AlbersEqualArea) → at l 0 ≡ f64 321 → albers_of l ≡ p → built_of l ≡ Ok (Albers p)
+pub albers_marked : (l : List Float) → at l 0 ≡ f64 321 → built_of l ≡ Ok (Albers (albers_of l))
 unfolding built_of marked to_bits of_bits
-albers_marked l p h e = rw (h, e) refl
+albers_marked l h = rw h refl
 
-pub equal_earth_marked : (l : List Float) (p : EqualEarth) → at l 0 ≡ f64 325 → equal_earth_of l ≡ p → built_of l ≡ Ok (Equal p)
+pub equal_earth_marked : (l : List Float) → at l 0 ≡ f64 325 → built_of l ≡ Ok (Equal (equal_earth_of l))
 unfolding built_of marked to_bits of_bits
-equal_earth_marked l p h e = rw (h, e) refl
+equal_earth_marked l h = rw h refl
 
-pub cassini_marked : (l : List Float) (p : CassiniSoldner) → at l 0 ≡ f64 323 → cassini_of l ≡ p → built_of l ≡ Ok (Cassini p)
+pub cassini_marked : (l : List Float) → at l 0 ≡ f64 323 → built_of l ≡ Ok (Cassini (cassini_of l))
 unfolding built_of marked to_bits of_bits
-cassini_marked l p h e = rw (h, e) refl
+cassini_marked l h = rw h refl
 
-pub polyconic_marked : (l : List Float) (p : AmericanPolyconic) → at l 0 ≡ f64 336 → polyconic_of l ≡ p → built_of l ≡ Ok (Polyconic p)
+pub polyconic_marked : (l : List Float) → at l 0 ≡ f64 336 → built_of l ≡ Ok (Polyconic (polyconic_of l))
 unfolding built_of marked to_bits of_bits
-polyconic_marked l p h e = rw (h, e) refl
+polyconic_marked l h = rw h refl
 
-pub guam_marked : (l : List Float) (p : GuamProjection) → at l 0 ≡ f64 327 → guam_of l ≡ p → built_of l ≡ Ok (Guam p)
+pub guam_marked : (l : List Float) → at l 0 ≡ f64 327 → built_of l ≡ Ok (Guam (guam_of l))
 unfolding built_of marked to_bits of_bits
-guam_marked l p h e = rw (h, e) refl
+guam_marked l h = rw h refl
 
 -- a small number is the pattern of its f64
 small_pattern : (n : ℕ) → n < 256 → to_bits binary64 (f64 n) ≡ n

@@ -1,6 +1,6 @@
 -- The projection that 36 numbers hold, whatever they are: a mark, the numbers of the kind, from place 18 on the 13 meridian numbers, and from place 31 on
 -- the area of use.
-use Rattle.std.specs.Prelude.{ℕ, zero, suc, ◌+◌, cond, ◌&&◌, List, [], ◌∷◌, eqb, ltb, get_or, unwrap_or, Float, Option, Some, None, Result, Ok, Err}
+use Rattle.std.specs.Prelude.{ℕ, zero, suc, ◌+◌, cond, List, [], ◌∷◌, eqb, ltb, get_or, unwrap_or, Float, Option, Some, None, Result, Ok, Err}
 use Prim.Native.Char.{code}
 use Rattle.std.specs.Float.{nan, binary64}
 use Rattle.std.specs.Float.Ieee.{to_bits}
@@ -96,15 +96,9 @@ cassini_of l =
       false_easting = at l 6;
       false_northing = at l 7;
       m0 = at l 8;
-      meridional_coeff0 = at l 9;
-      meridional_coeff2 = at l 10;
-      meridional_coeff4 = at l 11;
-      meridional_coeff6 = at l 12;
+      arc = record { coeff0 = at l 9; coeff2 = at l 10; coeff4 = at l 11; coeff6 = at l 12 };
       mu_denom = at l 13;
-      e1_coeff2 = at l 14;
-      e1_coeff4 = at l 15;
-      e1_coeff6 = at l 16;
-      e1_coeff8 = at l 17;
+      back = record { coeff2 = at l 14; coeff4 = at l 15; coeff6 = at l 16; coeff8 = at l 17 };
     }
 
 unfoldable pub polyconic_of : List Float → AmericanPolyconic

@@ -30,7 +30,7 @@ const GUAM: f64 = f64::from_bits(327);
 // The numbers of a kind, and zeros in the places that it does not use.
 fn with_zeros<const N: usize>(numbers: [f64; N]) -> [f64; 18]
     requires { N ≤ 18 }
-    ensures { result ≡ numbers ++ replicate (18 - N) +0 }
+    ensures { result ≡ numbers.entry ++ replicate (18 - N) +0 }
 {
     let mut all = [0.0; 18];
     all[..N].copy_from_slice(&numbers);
@@ -47,12 +47,12 @@ fn aspect_number(aspect: Aspect) -> f64
     }
 }
 
+#[tactic(auto, unfolding(crate::specs::Packing::lambert_of))]
 pub(crate) fn lambert(p: LambertAzimuthalEqualArea) -> [f64; 18]
     ensures { (at result 0 ≡ f64 332) × (lambert_of result ≡ p) }
 {
     let spherical = pick(p.spherical, 1.0, 0.0);
-    let aspect = p.aspect;
-    let aspect = aspect_number(aspect);
+    let aspect = aspect_number(p.aspect);
     with_zeros([
         LAMBERT,
         p.a,
@@ -74,6 +74,7 @@ pub(crate) fn lambert(p: LambertAzimuthalEqualArea) -> [f64; 18]
     ])
 }
 
+#[tactic(auto, unfolding(crate::specs::Packing::albers_of))]
 pub(crate) fn albers(p: AlbersEqualArea) -> [f64; 18]
     ensures { (at result 0 ≡ f64 321) × (albers_of result ≡ p) }
 {
@@ -91,6 +92,7 @@ pub(crate) fn albers(p: AlbersEqualArea) -> [f64; 18]
     ])
 }
 
+#[tactic(auto, unfolding(crate::specs::Packing::equal_earth_of))]
 pub(crate) fn equal_earth(p: EqualEarth) -> [f64; 18]
     ensures { (at result 0 ≡ f64 325) × (equal_earth_of result ≡ p) }
 {
@@ -106,6 +108,7 @@ pub(crate) fn equal_earth(p: EqualEarth) -> [f64; 18]
     ])
 }
 
+#[tactic(auto, unfolding(crate::specs::Packing::cassini_of))]
 pub(crate) fn cassini(p: CassiniSoldner) -> [f64; 18]
     ensures { (at result 0 ≡ f64 323) × (cassini_of result ≡ p) }
 {
@@ -119,18 +122,19 @@ pub(crate) fn cassini(p: CassiniSoldner) -> [f64; 18]
         p.false_easting,
         p.false_northing,
         p.m0,
-        p.meridional_coeff0,
-        p.meridional_coeff2,
-        p.meridional_coeff4,
-        p.meridional_coeff6,
+        p.arc.coeff0,
+        p.arc.coeff2,
+        p.arc.coeff4,
+        p.arc.coeff6,
         p.mu_denom,
-        p.e1_coeff2,
-        p.e1_coeff4,
-        p.e1_coeff6,
-        p.e1_coeff8,
+        p.back.coeff2,
+        p.back.coeff4,
+        p.back.coeff6,
+        p.back.coeff8,
     ]
 }
 
+#[tactic(auto, unfolding(crate::specs::Packing::polyconic_of))]
 pub(crate) fn polyconic(p: AmericanPolyconic) -> [f64; 18]
     ensures { (at result 0 ≡ f64 336) × (polyconic_of result ≡ p) }
 {
@@ -146,6 +150,7 @@ pub(crate) fn polyconic(p: AmericanPolyconic) -> [f64; 18]
     ])
 }
 
+#[tactic(auto, unfolding(crate::specs::Packing::guam_of))]
 pub(crate) fn guam(p: GuamProjection) -> [f64; 18]
     ensures { (at result 0 ≡ f64 327) × (guam_of result ≡ p) }
 {

@@ -1,11 +1,12 @@
 // A projection's 36 numbers.
-ghost use Rattle.std.specs.Prelude.{◌≡◌};
-ghost use Rattle.packing.specs.Packing.{from, built_of, area_from, unpacked};
+ghost use Rattle.std.specs.Prelude.{◌≡◌, ◌++◌};
+ghost use Rattle.packing.specs.Packing.{built_of, unpacked};
 
 use crate::own;
 use kinds::{Built, Projection};
 use refusals::Refusal;
 
+#[tactic(auto, using(crate::proofs::Marks::lambert_marked, crate::proofs::Marks::albers_marked, crate::proofs::Marks::equal_earth_marked, crate::proofs::Marks::cassini_marked, crate::proofs::Marks::polyconic_marked, crate::proofs::Marks::guam_marked))]
 fn own_numbers(built: Result<Built, Refusal>) -> [f64; 18]
     ensures { built_of result ≡ built }
 {
@@ -22,14 +23,13 @@ fn own_numbers(built: Result<Built, Refusal>) -> [f64; 18]
 
 // The numbers of a kind, and after them the meridian numbers and those of the area of use.
 fn joined(own: [f64; 18], en: [f64; 13], area: [f64; 5]) -> [f64; 36]
-    ensures { (built_of result ≡ built_of own) × (from result 18 13 ≡ en) × (area_from result 31 ≡ area_from area 0) }
+    ensures { result ≡ own ++ (en ++ area) }
 {
-    [
-        own[0], own[1], own[2], own[3], own[4], own[5], own[6], own[7], own[8], own[9], own[10],
-        own[11], own[12], own[13], own[14], own[15], own[16], own[17], en[0], en[1], en[2], en[3],
-        en[4], en[5], en[6], en[7], en[8], en[9], en[10], en[11], en[12], area[0], area[1],
-        area[2], area[3], area[4],
-    ]
+    let mut all = [0.0; 36];
+    all[..18].copy_from_slice(&own);
+    all[18..31].copy_from_slice(&en);
+    all[31..36].copy_from_slice(&area);
+    all
 }
 
 // Nothing is lost, of a refusal neither.

@@ -4,7 +4,7 @@ ghost use Rattle.packing.specs.Packing.{aspect_of, lambert_of, albers_of, equal_
 
 use albers_equal_area::AlbersEqualArea;
 use american_polyconic::AmericanPolyconic;
-use cassini_soldner::CassiniSoldner;
+use cassini_soldner::{ArcCoefficients, CassiniSoldner, FootpointCoefficients};
 use equal_earth::EqualEarth;
 use float::bits_of;
 use guam_projection::GuamProjection;
@@ -95,15 +95,19 @@ fn cassini_of(n: &[f64; 36]) -> CassiniSoldner
         false_easting: n[6],
         false_northing: n[7],
         m0: n[8],
-        meridional_coeff0: n[9],
-        meridional_coeff2: n[10],
-        meridional_coeff4: n[11],
-        meridional_coeff6: n[12],
+        arc: ArcCoefficients {
+            coeff0: n[9],
+            coeff2: n[10],
+            coeff4: n[11],
+            coeff6: n[12],
+        },
         mu_denom: n[13],
-        e1_coeff2: n[14],
-        e1_coeff4: n[15],
-        e1_coeff6: n[16],
-        e1_coeff8: n[17],
+        back: FootpointCoefficients {
+            coeff2: n[14],
+            coeff4: n[15],
+            coeff6: n[16],
+            coeff8: n[17],
+        },
     }
 }
 

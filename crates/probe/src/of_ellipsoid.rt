@@ -2,23 +2,24 @@
 ghost use Rattle.std.specs.Prelude.{◌≡◌};
 ghost use Rattle.ellipsoid.specs.Ellipsoid.{from_a_rf, from_a_f, inverse_flattening, b, e2, e, n, ep2, n_radius, m_radius};
 ghost use Rattle.ellipsoid.specs.Units.{deg_to_rad, rad_to_deg};
-ghost use Rattle.ellipsoid.specs.Results.{built_number};
+ghost use Rattle.refusals.specs.Refusals.{number};
 ghost use Rattle.probe.specs.Ellipsoids.{of};
 
-use ellipsoid::{Ellipsoid, built_number};
+use ellipsoid::Ellipsoid;
+use refusals::number;
 
 #[unsafe(no_mangle)]
 pub extern "C" fn probe_from_a_rf(a: f64, rf: f64) -> u8
-    ensures { result ≡ built_number (from_a_rf a rf) }
+    ensures { result ≡ number (from_a_rf a rf) }
 {
-    built_number(Ellipsoid::from_a_rf(a, rf))
+    number(Ellipsoid::from_a_rf(a, rf))
 }
 
 #[unsafe(no_mangle)]
 pub extern "C" fn probe_from_a_f(a: f64, f: f64) -> u8
-    ensures { result ≡ built_number (from_a_f a f) }
+    ensures { result ≡ number (from_a_f a f) }
 {
-    built_number(Ellipsoid::from_a_f(a, f))
+    number(Ellipsoid::from_a_f(a, f))
 }
 
 #[unsafe(no_mangle)]

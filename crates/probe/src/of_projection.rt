@@ -2,51 +2,50 @@
 ghost use Rattle.std.specs.Prelude.{◌≡◌, ◌%◌, get_or};
 ghost use Rattle.std.specs.Float.{nan};
 ghost use Rattle.projection.specs.Checks.{validate_angle, validate_latitude_param, validate_offset, validate_lon_lat, validate_projected};
-ghost use Rattle.projection.specs.Results.{number};
 ghost use Rattle.projection.specs.Ends.{ensure_finite_xy, ensure_finite_lon_lat};
-ghost use Rattle.refusals.specs.Refusals.{FALSE_EASTING};
+ghost use Rattle.refusals.specs.Refusals.{number};
+ghost use Rattle.refusals.specs.declared.Refusal.TheVariants.{FalseEasting};
 ghost use Rattle.projection.specs.Longitude.{normalize_longitude};
 ghost use Rattle.authalic.specs.Authalic.{authalic_q, authalic_latitude, geodetic_from_authalic};
 ghost use Rattle.meridian.specs.Meridian.{meridian_arc_coefficients, meridian_arc, inverse_meridian_arc};
 
 use meridian::meridian_arc_coefficients;
-use projection::number;
-use refusals::FALSE_EASTING;
+use refusals::{Refusal, number};
 
 #[unsafe(no_mangle)]
 pub extern "C" fn probe_validate_angle(value: f64) -> u8
-    ensures { result ≡ validate_angle value }
+    ensures { result ≡ number (validate_angle value) }
 {
-    projection::validate_angle(value)
+    number(projection::validate_angle(value))
 }
 
 #[unsafe(no_mangle)]
 pub extern "C" fn probe_validate_latitude_param(value: f64) -> u8
-    ensures { result ≡ validate_latitude_param value }
+    ensures { result ≡ number (validate_latitude_param value) }
 {
-    projection::validate_latitude_param(value)
+    number(projection::validate_latitude_param(value))
 }
 
 // By the false easting's number.
 #[unsafe(no_mangle)]
 pub extern "C" fn probe_validate_offset(value: f64) -> u8
-    ensures { result ≡ validate_offset value FALSE_EASTING }
+    ensures { result ≡ number (validate_offset value FalseEasting) }
 {
-    projection::validate_offset(value, FALSE_EASTING)
+    number(projection::validate_offset(value, Refusal::FalseEasting))
 }
 
 #[unsafe(no_mangle)]
 pub extern "C" fn probe_validate_lon_lat(lon: f64, lat: f64) -> u8
-    ensures { result ≡ validate_lon_lat lon lat }
+    ensures { result ≡ number (validate_lon_lat lon lat) }
 {
-    projection::validate_lon_lat(lon, lat)
+    number(projection::validate_lon_lat(lon, lat))
 }
 
 #[unsafe(no_mangle)]
 pub extern "C" fn probe_validate_projected(x: f64, y: f64) -> u8
-    ensures { result ≡ validate_projected x y }
+    ensures { result ≡ number (validate_projected x y) }
 {
-    projection::validate_projected(x, y)
+    number(projection::validate_projected(x, y))
 }
 
 #[unsafe(no_mangle)]

@@ -28,7 +28,7 @@ use refusals::Refusal;
 pub type Answer = Result<(f64, f64), Refusal>;
 
 // The settings of a projection. A kind that has no such latitude is given 0.
-#[derive(Clone, Copy)]
+#[derive(Clone, Copy, Debug)]
 pub struct Settings {
     pub lon0: f64,
     pub lat0: f64,

@@ -1,8 +1,9 @@
 // A worked example, and whether we agree with what is printed.
 use ellipsoid::{Ellipsoid, deg_to_rad, rad_to_deg};
 use float::abs;
-use letters::{Kind, Settings, Way};
-use projection::Answer;
+use letters::{Kind, Way};
+use projection::{Answer, Settings};
+use refusals::Refusal;
 use std::io;
 
 // Longitude and latitude in degrees, or easting and northing.
@@ -35,10 +36,6 @@ pub(crate) struct Tally {
     pub differ: u64,
 }
 
-fn plus_one(n: u64) -> u64 {
-    if n < 1000 { n + 1 } else { n }
-}
-
 fn project(way: Way, e: Example, u: f64, v: f64) -> Answer {
     let settings = Settings {
         lon0: deg_to_rad(e.origin.0),
@@ -53,69 +50,65 @@ fn project(way: Way, e: Example, u: f64, v: f64) -> Answer {
 }
 
 // Whether an answer is within a distance of what is printed. It writes which.
-fn is_held(rt: &impl Print, name: &[u8], ours: f64, printed: f64, within: f64) -> io::Result<bool> {
-    rt.write_all(name)?;
-    if abs(ours - printed) <= within {
-        rt.write_all(b" held")?;
-        return Ok(true);
-    }
-    rt.write_all(b" differs")?;
-    Ok(false)
+fn is_held(rt: &impl Print, name: &str, ours: f64, printed: f64, within: f64) -> io::Result<bool> {
+    let held = abs(ours - printed) <= within;
+    let said = if held { "held" } else { "differs" };
+    print!(rt; "{name} {said}")?;
+    Ok(held)
 }
 
 // Ends the line, and counts one answer more.
 fn counted(rt: &impl Print, tally: Tally, first: bool, second: bool) -> io::Result<Tally> {
-    rt.write_all(b"\n")?;
+    println!(rt)?;
     if first & second {
         return Ok(Tally {
-            held: plus_one(tally.held),
+            held: tally.held.saturating_add(1),
             differ: tally.differ,
         });
     }
     Ok(Tally {
         held: tally.held,
-        differ: plus_one(tally.differ),
+        differ: tally.differ.saturating_add(1),
     })
 }
 
-fn refused(rt: &impl Print, tally: Tally, number: u8) -> io::Result<Tally> {
+fn refused(rt: &impl Print, tally: Tally, refusal: Refusal) -> io::Result<Tally> {
+    let number = refusal.number();
     print!(rt; " refused, {number}")?;
     counted(rt, tally, false, false)
 }
 
-pub(crate) fn forward(rt: &impl Print, name: &[u8], e: Example, tally: Tally) -> io::Result<Tally> {
-    rt.write_all(name)?;
-    rt.write_all(b", forward:")?;
+pub(crate) fn forward(rt: &impl Print, name: &str, e: Example, tally: Tally) -> io::Result<Tally> {
+    print!(rt; "{name}, forward:")?;
     let lon = deg_to_rad(e.lon_lat.0);
     let lat = deg_to_rad(e.lon_lat.1);
     let answer = project(Way::Forward, e, lon, lat);
     match answer {
-        Answer::Pair(x, y) => {
-            let first = is_held(rt, b" x", x, e.x_y.0, e.length)?;
-            let second = is_held(rt, b", y", y, e.x_y.1, e.length)?;
+        Ok((x, y)) => {
+            let first = is_held(rt, " x", x, e.x_y.0, e.length)?;
+            let second = is_held(rt, ", y", y, e.x_y.1, e.length)?;
             counted(rt, tally, first, second)
         }
-        Answer::Refused(n) => refused(rt, tally, n),
+        Err(refusal) => refused(rt, tally, refusal),
     }
 }
 
-pub(crate) fn inverse(rt: &impl Print, name: &[u8], e: Example, tally: Tally) -> io::Result<Tally> {
-    rt.write_all(name)?;
-    rt.write_all(b", inverse:")?;
+pub(crate) fn inverse(rt: &impl Print, name: &str, e: Example, tally: Tally) -> io::Result<Tally> {
+    print!(rt; "{name}, inverse:")?;
     let answer = project(Way::Inverse, e, e.x_y.0, e.x_y.1);
     match answer {
-        Answer::Pair(lon, lat) => {
-            let first = is_held(rt, b" lon", rad_to_deg(lon), e.lon_lat.0, e.angle)?;
-            let second = is_held(rt, b", lat", rad_to_deg(lat), e.lon_lat.1, e.angle)?;
+        Ok((lon, lat)) => {
+            let first = is_held(rt, " lon", rad_to_deg(lon), e.lon_lat.0, e.angle)?;
+            let second = is_held(rt, ", lat", rad_to_deg(lat), e.lon_lat.1, e.angle)?;
             counted(rt, tally, first, second)
         }
-        Answer::Refused(n) => refused(rt, tally, n),
+        Err(refusal) => refused(rt, tally, refusal),
     }
 }
 
 pub(crate) fn both_ways(
     rt: &impl Print,
-    name: &[u8],
+    name: &str,
     e: Example,
     tally: Tally,
 ) -> io::Result<Tally> {

@@ -74,8 +74,8 @@ const GUAM: Example = Example {
 };
 
 pub(crate) fn run(rt: &impl Print, tally: Tally) -> io::Result<Tally> {
-    let tally = both_ways(rt, b"IOGP, Albers, Great Lakes", ALBERS, tally)?;
-    let tally = both_ways(rt, b"IOGP, Lambert, Europe", LAMBERT, tally)?;
-    let tally = both_ways(rt, b"IOGP, Cassini, Trinidad", CASSINI, tally)?;
-    both_ways(rt, b"IOGP, Guam", GUAM, tally)
+    let tally = both_ways(rt, "IOGP, Albers, Great Lakes", ALBERS, tally)?;
+    let tally = both_ways(rt, "IOGP, Lambert, Europe", LAMBERT, tally)?;
+    let tally = both_ways(rt, "IOGP, Cassini, Trinidad", CASSINI, tally)?;
+    both_ways(rt, "IOGP, Guam", GUAM, tally)
 }

@@ -25,17 +25,11 @@ fn albers(lon_lat: Pair, x_y: Pair) -> Example {
     }
 }
 
-fn there(
-    rt: &impl Print,
-    name: &[u8],
-    lon_lat: Pair,
-    x_y: Pair,
-    tally: Tally,
-) -> io::Result<Tally> {
+fn there(rt: &impl Print, name: &str, lon_lat: Pair, x_y: Pair, tally: Tally) -> io::Result<Tally> {
     forward(rt, name, albers(lon_lat, x_y), tally)
 }
 
-fn back(rt: &impl Print, name: &[u8], lon_lat: Pair, x_y: Pair, tally: Tally) -> io::Result<Tally> {
+fn back(rt: &impl Print, name: &str, lon_lat: Pair, x_y: Pair, tally: Tally) -> io::Result<Tally> {
     inverse(rt, name, albers(lon_lat, x_y), tally)
 }
 
@@ -46,28 +40,28 @@ pub(crate) fn run(rt: &impl Print, tally: Tally) -> io::Result<Tally> {
     let southwest = Pair(-223470.154991687, -111610.339430990);
     let tally = there(
         rt,
-        b"PROJ, Albers, sphere, north-east",
+        "PROJ, Albers, sphere, north-east",
         Pair(2.0, 1.0),
         northeast,
         tally,
     )?;
     let tally = there(
         rt,
-        b"PROJ, Albers, sphere, south-east",
+        "PROJ, Albers, sphere, south-east",
         Pair(2.0, -1.0),
         southeast,
         tally,
     )?;
     let tally = there(
         rt,
-        b"PROJ, Albers, sphere, north-west",
+        "PROJ, Albers, sphere, north-west",
         Pair(-2.0, 1.0),
         northwest,
         tally,
     )?;
     let tally = there(
         rt,
-        b"PROJ, Albers, sphere, south-west",
+        "PROJ, Albers, sphere, south-west",
         Pair(-2.0, -1.0),
         southwest,
         tally,
@@ -78,28 +72,28 @@ pub(crate) fn run(rt: &impl Print, tally: Tally) -> io::Result<Tally> {
     let southwest = Pair(-0.001790493, -0.000895247);
     let tally = back(
         rt,
-        b"PROJ, Albers, sphere, north-east",
+        "PROJ, Albers, sphere, north-east",
         northeast,
         Pair(200.0, 100.0),
         tally,
     )?;
     let tally = back(
         rt,
-        b"PROJ, Albers, sphere, south-east",
+        "PROJ, Albers, sphere, south-east",
         southeast,
         Pair(200.0, -100.0),
         tally,
     )?;
     let tally = back(
         rt,
-        b"PROJ, Albers, sphere, north-west",
+        "PROJ, Albers, sphere, north-west",
         northwest,
         Pair(-200.0, 100.0),
         tally,
     )?;
     back(
         rt,
-        b"PROJ, Albers, sphere, south-west",
+        "PROJ, Albers, sphere, south-west",
         southwest,
         Pair(-200.0, -100.0),
         tally,

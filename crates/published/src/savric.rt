@@ -40,6 +40,6 @@ const POLE: Example = Example {
 };
 
 pub(crate) fn run(rt: &impl Print, tally: Tally) -> io::Result<Tally> {
-    let tally = forward(rt, b"Equal Earth, end of the equator", EQUATOR, tally)?;
-    forward(rt, b"Equal Earth, end of a pole line", POLE, tally)
+    let tally = forward(rt, "Equal Earth, end of the equator", EQUATOR, tally)?;
+    forward(rt, "Equal Earth, end of a pole line", POLE, tally)
 }

@@ -109,12 +109,12 @@ const POLYCONIC_SPHERE: Example = Example {
 };
 
 pub(crate) fn run(rt: &impl Print, tally: Tally) -> io::Result<Tally> {
-    let tally = both_ways(rt, b"Snyder, Albers", ALBERS, tally)?;
-    let tally = both_ways(rt, b"Snyder, Albers, sphere", ALBERS_SPHERE, tally)?;
-    let tally = both_ways(rt, b"Snyder, Lambert, oblique", LAMBERT_OBLIQUE, tally)?;
-    let tally = both_ways(rt, b"Snyder, Lambert, polar", LAMBERT_POLAR, tally)?;
-    let tally = both_ways(rt, b"Snyder, Lambert, sphere", LAMBERT_SPHERE, tally)?;
-    let tally = both_ways(rt, b"Snyder, Cassini", CASSINI, tally)?;
-    let tally = both_ways(rt, b"Snyder, polyconic", POLYCONIC, tally)?;
-    both_ways(rt, b"Snyder, polyconic, sphere", POLYCONIC_SPHERE, tally)
+    let tally = both_ways(rt, "Snyder, Albers", ALBERS, tally)?;
+    let tally = both_ways(rt, "Snyder, Albers, sphere", ALBERS_SPHERE, tally)?;
+    let tally = both_ways(rt, "Snyder, Lambert, oblique", LAMBERT_OBLIQUE, tally)?;
+    let tally = both_ways(rt, "Snyder, Lambert, polar", LAMBERT_POLAR, tally)?;
+    let tally = both_ways(rt, "Snyder, Lambert, sphere", LAMBERT_SPHERE, tally)?;
+    let tally = both_ways(rt, "Snyder, Cassini", CASSINI, tally)?;
+    let tally = both_ways(rt, "Snyder, polyconic", POLYCONIC, tally)?;
+    both_ways(rt, "Snyder, polyconic, sphere", POLYCONIC_SPHERE, tally)
 }

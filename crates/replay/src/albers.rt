@@ -3,7 +3,7 @@ use crate::line::{is_in_form, number_of};
 use crate::reply::{Reply, of_answer};
 use albers_equal_area::AlbersEqualArea;
 
-pub(crate) fn of_albers(text: &[u8]) -> Reply {
+pub(crate) fn of_albers(text: &[u8]) -> Option<Reply> {
     if is_in_form(text, 11) {
         let p = AlbersEqualArea {
             a: number_of(text, 0),
@@ -16,7 +16,9 @@ pub(crate) fn of_albers(text: &[u8]) -> Reply {
             false_easting: number_of(text, 7),
             false_northing: number_of(text, 8),
         };
-        return of_answer(p.inverse(number_of(text, 9), number_of(text, 10)));
+        return Some(of_answer(
+            p.inverse(number_of(text, 9), number_of(text, 10)),
+        ));
     }
-    Reply::None
+    None
 }

@@ -4,7 +4,7 @@ use float::f64_of;
 use kinds::{Projection, answer, build};
 use packing::{packed, unpacked};
 use projection::Area;
-use sheet::{Hex, ValueLine, Values, field, read_hex, read_line};
+use sheet::{Values, field, read_hex, read_line};
 
 // A value line's length. After it come the four edges, each a comma and 16 digits.
 const LINE: usize = 173;
@@ -22,8 +22,7 @@ fn handed(p: Projection, area: Area) -> Projection {
 
 // The projection that a value line asks for, built with the area, or built without it and the area handed in.
 fn with_area(values: Values, area: Area, handed_in: bool) -> Projection {
-    let kind = values.kind;
-    let p = build(kind, values.a, values.f, values.settings);
+    let p = build(values.kind, values.a, values.f, values.settings);
     if handed_in {
         return handed(p, area);
     }
@@ -31,51 +30,27 @@ fn with_area(values: Values, area: Area, handed_in: bool) -> Projection {
 }
 
 // The area of the four fields after a value line.
-#[derive(Clone, Copy)]
-pub(crate) enum Edges {
-    Read(Area),
-    Malformed,
-}
-
-pub(crate) fn read_edges(text: &[u8]) -> Edges {
-    let Hex::Bits(west) = read_hex(field(text, 12)) else {
-        return Edges::Malformed;
-    };
-    let Hex::Bits(east) = read_hex(field(text, 13)) else {
-        return Edges::Malformed;
-    };
-    let Hex::Bits(south) = read_hex(field(text, 14)) else {
-        return Edges::Malformed;
-    };
-    let Hex::Bits(north) = read_hex(field(text, 15)) else {
-        return Edges::Malformed;
-    };
-    Edges::Read(Area {
-        west: f64_of(west),
-        east: f64_of(east),
-        south: f64_of(south),
-        north: f64_of(north),
+pub(crate) fn read_edges(text: &[u8]) -> Option<Area> {
+    Some(Area {
+        west: f64_of(read_hex(field(text, 12))?),
+        east: f64_of(read_hex(field(text, 13))?),
+        south: f64_of(read_hex(field(text, 14))?),
+        north: f64_of(read_hex(field(text, 15))?),
     })
 }
 
-fn of_edges(values: Values, text: &[u8], handed_in: bool) -> Reply {
-    let way = values.way;
-    match read_edges(text) {
-        Edges::Read(area) => {
-            of_answer(answer(way, with_area(values, area, handed_in), values.u, values.v))
-        }
-        Edges::Malformed => Reply::None,
+// A value line, and the area of the four edges after it.
+pub(crate) fn read_line_and_edges(text: &[u8]) -> Option<(Values, Area)> {
+    if text.len() != LINE + 4 * 17 {
+        return None;
     }
+    let values = read_line(&text[..LINE])?;
+    Some((values, read_edges(text)?))
 }
 
 // To a value line with four edges after it.
-pub(crate) fn of_area(text: &[u8], handed_in: bool) -> Reply {
-    if text.len() == LINE + 4 * 17 {
-        match read_line(&text[0..LINE]) {
-            ValueLine::Values(values) => of_edges(values, text, handed_in),
-            ValueLine::Malformed => Reply::None,
-        }
-    } else {
-        Reply::None
-    }
+pub(crate) fn of_area(text: &[u8], handed_in: bool) -> Option<Reply> {
+    let (values, area) = read_line_and_edges(text)?;
+    let p = with_area(values, area, handed_in);
+    Some(of_answer(answer(values.way, p, values.u, values.v)))
 }

@@ -3,7 +3,7 @@ ghost use Rattle.std.specs.Prelude.{◌<◌, ◌≤◌};
 
 use crate::scan::find;
 use float::f64_of;
-use sheet::{Hex, field, read_hex};
+use sheet::{field, read_hex};
 
 // The line without its comment, which starts at `#`, and without the blanks before that.
 pub(crate) fn uncommented(line: &[u8]) -> &[u8] {
@@ -32,20 +32,12 @@ pub(crate) fn answer(text: &[u8]) -> &[u8] {
     &text[end..]
 }
 
-// Whether a field is a number's 16 digits.
-fn has_number(text: &[u8], i: usize) -> bool {
-    match read_hex(field(text, i)) {
-        Hex::Bits(_) => true,
-        Hex::Malformed => false,
-    }
-}
-
 // Whether a text is so many fields of 16 digits, commas between.
 pub(crate) fn is_in_form(text: &[u8], fields: usize) -> bool
     requires { (0 < fields) × (fields ≤ 11) }
 {
     for i in 0..fields {
-        if !has_number(text, i) {
+        if read_hex(field(text, i)).is_none() {
             return false;
         }
     }
@@ -54,10 +46,7 @@ pub(crate) fn is_in_form(text: &[u8], fields: usize) -> bool
 
 // The bits of a field; 0 where it has another form.
 pub(crate) fn bits_at(text: &[u8], i: usize) -> u64 {
-    match read_hex(field(text, i)) {
-        Hex::Bits(bits) => bits,
-        Hex::Malformed => 0,
-    }
+    read_hex(field(text, i)).unwrap_or(0)
 }
 
 // The number of a field, by its bits.

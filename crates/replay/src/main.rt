@@ -13,7 +13,6 @@ mod charges;
 mod ellipsoids;
 mod functions;
 mod line;
-mod list;
 mod on_map;
 mod question;
 mod reply;
@@ -23,10 +22,9 @@ mod schools;
 
 ghost use Rattle.std.specs.Prelude.{◌≡◌, ◌+◌, ◌≤◌, length, IfOk};
 
-use check::same;
 use line::{answer, question, uncommented};
 use question::{name, reply};
-use reply::{is_said, write_reply};
+use reply::is_said;
 use scan::find;
 use std::io;
 use std::io::Read;
@@ -44,13 +42,14 @@ fn input_buffer() -> [u8; ROOM]
 fn agrees(rt: &impl Print, line: &[u8]) -> io::Result<bool> {
     let text = uncommented(line);
     let ours = reply(question(text));
-    if is_said(answer(text), ours) {
+    if let Some(said) = ours && is_said(answer(text), said) {
         return Ok(true);
     }
     rt.write_all(line)?;
-    rt.write_all(b"\n  ours: ")?;
-    write_reply(rt, ours)?;
-    rt.write_all(b"\n")?;
+    match ours {
+        Some(said) => println!(rt; "\n  ours: {said}")?,
+        None => println!(rt; "\n  ours: none, the question is not understood")?,
+    }
     Ok(false)
 }
 
@@ -62,12 +61,7 @@ fn report(rt: &impl Print, name: &[u8], ours: u64, lines: u64) -> io::Result<()>
 
 // The count after one more line, which counts where `more` holds. No input has so many lines that it stops.
 fn counted(n: u64, more: bool) -> u64 {
-    if more {
-        if n < 1200000 {
-            return n + 1;
-        }
-    }
-    n
+    if more && n < 1200000 { n + 1 } else { n }
 }
 
 // The line from a place on, without its byte 10.
@@ -88,7 +82,7 @@ fn replay(rt: &impl Print, input: &[u8]) -> io::Result<()> {
     while at < input.len() {
         let line = line_at(input, at);
         let known = line_at(input, first);
-        if !same(name(line), name(known)) {
+        if name(line) != name(known) {
             report(rt, name(known), ours, lines)?;
             first = at;
             ours = 0;

@@ -25,56 +25,46 @@ use crate::reply::{Reply, of_answer};
 use crate::rings::of_ring_line;
 use crate::scan::find;
 use crate::schools::of_schools;
-use check::same;
 use float::f64_of;
-use sheet::{Hex, field, read_hex};
+use sheet::{field, read_hex};
 
 fn is_value_line(question: &[u8]) -> bool {
-    let way = field(question, 0);
-    same(way, b"F") | same(way, b"I")
+    matches!(field(question, 0), b"F" | b"I")
 }
 
 // The name that a line is counted under: a way and kind, as `F,P`, or what stands before the arguments.
 pub(crate) fn name(line: &[u8]) -> &[u8] {
     let asked = question(line);
-    if is_value_line(asked) {
-        if 3 < asked.len() {
-            return &asked[0..3];
-        }
+    if is_value_line(asked) && 3 < asked.len() {
+        return &asked[0..3];
     }
     field(asked, 0)
 }
 
 // An argument of as many as a question has; 0 for one that it has not.
-fn argument(question: &[u8], i: usize, count: usize) -> Hex {
+fn argument(question: &[u8], i: usize, count: usize) -> Option<f64> {
     if count < i {
-        return Hex::Bits(0);
+        return Some(0.0);
     }
-    read_hex(field(question, i))
+    Some(f64_of(read_hex(field(question, i))?))
 }
 
 // To a name and its arguments, each a comma and 16 digits.
-fn of_call(question: &[u8]) -> Reply {
+fn of_call(question: &[u8]) -> Option<Reply> {
     let size = question.len() - find(question, 0, question.len(), b',');
     if size % 17 != 0 {
-        return Reply::None;
+        return None;
     }
     let count = size / 17;
-    let Hex::Bits(x) = argument(question, 1, count) else {
-        return Reply::None;
-    };
-    let Hex::Bits(y) = argument(question, 2, count) else {
-        return Reply::None;
-    };
-    let Hex::Bits(z) = argument(question, 3, count) else {
-        return Reply::None;
-    };
+    let x = argument(question, 1, count)?;
+    let y = argument(question, 2, count)?;
+    let z = argument(question, 3, count)?;
     match count {
         0 => of_name(question),
-        1 => of_one(field(question, 0), f64_of(x)),
-        2 => of_two(field(question, 0), f64_of(x), f64_of(y)),
-        3 => of_three(field(question, 0), f64_of(x), f64_of(y), f64_of(z)),
-        _ => Reply::None,
+        1 => of_one(field(question, 0), x),
+        2 => of_two(field(question, 0), x, y),
+        3 => of_three(field(question, 0), x, y, z),
+        _ => None,
     }
 }
 
@@ -87,29 +77,21 @@ fn rest(question: &[u8]) -> &[u8] {
     &question[comma..]
 }
 
-pub(crate) fn reply(question: &[u8]) -> Reply {
-    let first = field(question, 0);
+// Our reply; none where the question is not understood.
+pub(crate) fn reply(question: &[u8]) -> Option<Reply> {
     if is_value_line(question) {
-        of_answer(sheet::answer(question))
-    } else if same(first, b"area") {
-        of_area(rest(question), false)
-    } else if same(first, b"handed") {
-        of_area(rest(question), true)
-    } else if same(first, b"ring") {
-        of_ring_line(rest(question), false)
-    } else if same(first, b"ring_in_area") {
-        of_ring_line(rest(question), true)
-    } else if same(first, b"nearest") {
-        of_schools(rest(question))
-    } else if same(first, b"albers_inverse") {
-        of_albers(rest(question))
-    } else if same(first, b"on_map") {
-        of_click(rest(question))
-    } else if same(first, b"on_map_in_area") {
-        of_click_in_area(rest(question))
-    } else if same(first, b"travel_charge") {
-        of_charge(rest(question))
-    } else {
-        of_call(question)
+        return Some(of_answer(sheet::answer(question)));
+    }
+    match field(question, 0) {
+        b"area" => of_area(rest(question), false),
+        b"handed" => of_area(rest(question), true),
+        b"ring" => of_ring_line(rest(question), false),
+        b"ring_in_area" => of_ring_line(rest(question), true),
+        b"nearest" => of_schools(rest(question)),
+        b"albers_inverse" => of_albers(rest(question)),
+        b"on_map" => of_click(rest(question)),
+        b"on_map_in_area" => of_click_in_area(rest(question)),
+        b"travel_charge" => of_charge(rest(question)),
+        _ => of_call(question),
     }
 }

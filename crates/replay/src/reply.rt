@@ -2,16 +2,16 @@
 ghost use Rattle.std.specs.Prelude.{◌≤◌};
 
 use crate::scan::put_decimal;
-use check::same;
 use float::bits_of;
 use projection::Answer;
-use ring::{RingArea, ring_number, ring_points, ring_square};
-use sheet::{Hex, field, read_hex};
-use std::io;
+use refusals::Refusal;
+use ring::RingArea;
+use sheet::{field, read_hex};
+use std::fmt;
 
 // A number as its bits, a row of a sheet (the number of a refusal or 0, and two results as bits) or of a charge (the charge, and the
 // shares in one number), the same of a ring (its area, the number of its points) with both buffers in one number, a number and a list
-// in one number, that what is asked for is missing, or none where the question is not understood.
+// in one number, or that what is asked for is missing.
 #[derive(Clone, Copy)]
 pub(crate) enum Reply {
     Bits(u64),
@@ -19,7 +19,6 @@ pub(crate) enum Reply {
     Ring(u8, u64, u64, u64),
     List(u8, u64),
     Missing,
-    None,
 }
 
 pub(crate) fn of_f64(x: f64) -> Reply {
@@ -30,29 +29,31 @@ pub(crate) fn of_pair(p: f64, q: f64) -> Reply {
     Reply::Row(0, bits_of(p), bits_of(q))
 }
 
+pub(crate) fn of_bool(b: bool) -> Reply {
+    Reply::Bits(u64::from(b))
+}
+
+pub(crate) fn of_refusal(refusal: Refusal) -> Reply {
+    Reply::Row(refusal.number(), 0, 0)
+}
+
 pub(crate) fn of_answer(answer: Answer) -> Reply {
     match answer {
-        Answer::Pair(p, q) => of_pair(p, q),
-        Answer::Refused(n) => Reply::Row(n, 0, 0),
+        Ok((p, q)) => of_pair(p, q),
+        Err(refusal) => of_refusal(refusal),
     }
 }
 
-pub(crate) fn of_ring(answer: RingArea, buffers: u64) -> Reply {
-    let area = bits_of(ring_square(answer));
-    Reply::Ring(
-        ring_number(answer),
-        area,
-        ring_points(answer) as u64,
-        buffers,
-    )
+pub(crate) fn of_ring(answer: Result<RingArea, Refusal>, buffers: u64) -> Reply {
+    match answer {
+        Ok(ring) => Reply::Ring(0, bits_of(ring.area), ring.points as u64, buffers),
+        Err(refusal) => Reply::Ring(refusal.number(), 0, 0, buffers),
+    }
 }
 
 // Whether a text is a number's 16 digits.
 fn is_hex(text: &[u8], bits: u64) -> bool {
-    match read_hex(text) {
-        Hex::Bits(b) => b == bits,
-        Hex::Malformed => false,
-    }
+    read_hex(text) == Some(bits)
 }
 
 // Whether a text starts with a number, and has so many bytes after it. No refusal has a number of three digits.
@@ -66,7 +67,7 @@ fn starts(text: &[u8], n: u8, rest: usize) -> bool
     } else {
         text.len() == rest + 2
     };
-    ends & same(field(text, 0), &digits[..count])
+    ends & (field(text, 0) == &digits[..count])
 }
 
 // Whether a text is a row, and ends after it.
@@ -94,20 +95,20 @@ pub(crate) fn is_said(text: &[u8], reply: Reply) -> bool {
         Reply::Row(n, p, q) => is_row(text, n, p, q),
         Reply::Ring(n, area, points, buffers) => is_ring(text, n, area, points, buffers),
         Reply::List(n, list) => is_list(text, n, list),
-        Reply::Missing => same(text, b"missing"),
-        Reply::None => false,
+        Reply::Missing => text == b"missing",
     }
 }
 
-pub(crate) fn write_reply(rt: &impl Print, reply: Reply) -> io::Result<()> {
-    match reply {
-        Reply::Bits(bits) => print!(rt; "{bits:016x}"),
-        Reply::Row(n, p, q) => print!(rt; "{n},{p:016x},{q:016x}"),
-        Reply::Ring(n, area, points, buffers) => {
-            print!(rt; "{n},{area:016x},{points:016x},{buffers:016x}")
+impl fmt::Display for Reply {
+    fn fmt<W: fmt::Write>(&self, f: &mut fmt::Formatter<W>) -> fmt::Result {
+        match *self {
+            Reply::Bits(bits) => write!(f, "{bits:016x}"),
+            Reply::Row(n, p, q) => write!(f, "{n},{p:016x},{q:016x}"),
+            Reply::Ring(n, area, points, buffers) => {
+                write!(f, "{n},{area:016x},{points:016x},{buffers:016x}")
+            }
+            Reply::List(n, list) => write!(f, "{n},{list:016x}"),
+            Reply::Missing => write!(f, "missing"),
         }
-        Reply::List(n, list) => print!(rt; "{n},{list:016x}"),
-        Reply::Missing => print!(rt; "missing"),
-        Reply::None => print!(rt; "none, the question is not understood"),
     }
 }

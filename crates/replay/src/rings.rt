@@ -1,14 +1,14 @@
 // Rings. After the value line, or after an area's four edges, stand the lengths of both lists, and then the given corners, by pairs;
 // a list that is longer has them again from the first. The value line has the lengths of both buffers in the place of its point.
-ghost use Rattle.std.specs.Prelude.{◌≡◌, ◌<◌, ◌≤◌, length};
+ghost use Rattle.std.specs.Prelude.{◌≡◌, ◌<◌, ◌≤◌, length, IfSome};
 
-use crate::areas::{Edges, read_edges};
+use crate::areas::read_edges;
 use crate::line::number_of;
 use crate::reply::{Reply, of_ring};
 use float::{bits_of, f64_of};
 use kinds::{Projection, build};
 use ring::ring_area;
-use sheet::{Hex, ValueLine, Values, field, read_hex, read_line};
+use sheet::{Values, field, read_hex, read_line};
 
 // A value line's length and that of a field with its comma.
 const LINE: usize = 173;
@@ -41,13 +41,8 @@ pub(crate) fn whole(text: &[u8], i: usize, most: usize) -> usize
     ensures { result ≤ most }
 {
     match read_hex(field(text, i)) {
-        Hex::Bits(n) => {
-            if n <= most as u64 {
-                return n as usize;
-            }
-            most
-        }
-        Hex::Malformed => most,
+        Some(n) if n <= most as u64 => n as usize,
+        _ => most,
     }
 }
 
@@ -55,29 +50,23 @@ pub(crate) fn whole(text: &[u8], i: usize, most: usize) -> usize
 pub(crate) fn fill(list: &mut [f64], text: &[u8], first: usize, given: usize)
     requires { (first ≤ 19) × (0 < given) × (given ≤ 64) }
 {
-    let mut i = 0;
-    while i < list.len() {
-        list[i] = number_of(text, first + 2 * (i % given));
-        i += 1;
+    for (i, place) in list.iter_mut().enumerate() {
+        *place = number_of(text, first + 2 * (i % given));
     }
 }
 
 // What a buffer holds before the call: each place its own number, as bits.
 fn count_up(list: &mut [f64]) {
-    let mut i = 0;
-    while i < list.len() {
-        list[i] = f64_of(i as u64);
-        i += 1;
+    for (i, place) in list.iter_mut().enumerate() {
+        *place = f64_of(i as u64);
     }
 }
 
 // A buffer in one number: turned by a bit for each place, and changed by its bits.
 fn print(list: &[f64], start: u64) -> u64 {
     let mut print = start;
-    let mut i = 0;
-    while i < list.len() {
-        print = (print << 1 | print >> 63) ^ bits_of(list[i]);
-        i += 1;
+    for &x in list {
+        print = print.rotate_left(1) ^ bits_of(x);
     }
     print
 }
@@ -120,63 +109,36 @@ fn measured(p: Projection, text: &[u8], first: usize, given: usize) -> Reply
     )
 }
 
-// How many corners stand after a value line and so many fields; 0 where a text has another form.
-fn corners_given(text: &[u8], fields: usize) -> usize
+// How many corners stand after a value line and so many fields; none where a text has another form.
+fn corners_given(text: &[u8], fields: usize) -> Option<usize>
     requires { fields ≤ 6 }
-    ensures { result ≤ 64 }
+    ensures { IfSome result (λ given. (0 < given) × (given ≤ 64)) }
 {
     let head = LINE + FIELD * fields;
     if text.len() < head {
-        return 0;
+        return None;
     }
     let size = text.len() - head;
     let given = size / (2 * FIELD);
-    if size % (2 * FIELD) == 0 {
-        if given <= GIVEN {
-            return given;
-        }
+    if size % (2 * FIELD) == 0 && 0 < given && given <= GIVEN {
+        return Some(given);
     }
-    0
+    None
 }
 
-// By the projection of a value line.
-fn of_values(values: Values, text: &[u8]) -> Reply {
-    let given = corners_given(text, 2);
-    if 0 < given {
-        let kind = values.kind;
-        let p = build(kind, values.a, values.f, values.settings);
-        return measured(p, text, 12, given);
-    }
-    Reply::None
-}
-
-// The same, built with the area whose edges stand after that line.
-fn of_values_in_area(values: Values, text: &[u8]) -> Reply {
-    let given = corners_given(text, 6);
-    if 0 < given {
-        let kind = values.kind;
-        let p = build(kind, values.a, values.f, values.settings);
-        return match read_edges(text) {
-            Edges::Read(area) => measured(p.with_area(area), text, 16, given),
-            Edges::Malformed => Reply::None,
-        };
-    }
-    Reply::None
-}
-
-// To a value line with a ring after it, or with four edges and a ring.
-pub(crate) fn of_ring_line(text: &[u8], in_area: bool) -> Reply {
+// To a value line with a ring after it, or with four edges and a ring: by the projection of that line.
+pub(crate) fn of_ring_line(text: &[u8], in_area: bool) -> Option<Reply> {
     if text.len() < LINE {
-        return Reply::None;
+        return None;
     }
-    match read_line(&text[0..LINE]) {
-        ValueLine::Values(values) => {
-            if in_area {
-                of_values_in_area(values, text)
-            } else {
-                of_values(values, text)
-            }
-        }
-        ValueLine::Malformed => Reply::None,
+    let values = read_line(&text[..LINE])?;
+    let p = build(values.kind, values.a, values.f, values.settings);
+    if in_area {
+        let given = corners_given(text, 6)?;
+        let area = read_edges(text)?;
+        Some(measured(p.with_area(area), text, 16, given))
+    } else {
+        let given = corners_given(text, 2)?;
+        Some(measured(p, text, 12, given))
     }
 }

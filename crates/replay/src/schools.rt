@@ -6,7 +6,8 @@ use crate::line::number_of;
 use crate::reply::Reply;
 use crate::rings::{fill, whole};
 use nearest::nearest;
-use sheet::{Hex, field, read_hex};
+use refusals::number;
+use sheet::{field, read_hex};
 
 // The bytes of six fields with five commas, and of a school's three with three.
 const HEAD: usize = 101;
@@ -31,43 +32,31 @@ fn positions() -> [u16; PLACES]
 }
 
 fn roll(text: &[u8], i: usize) -> u16 {
-    match read_hex(field(text, i)) {
-        Hex::Bits(n) => (n % 65536) as u16,
-        Hex::Malformed => 0,
-    }
+    let n = read_hex(field(text, i)).unwrap_or(0);
+    (n % 65536) as u16
 }
 
 // The rolls of so many schools, which are the fields after the pairs, again and again.
 fn fill_rolls(list: &mut [u16], text: &[u8], given: usize)
     requires { (0 < given) × (given ≤ 64) }
 {
-    let mut i = 0;
-    while i < list.len() {
-        list[i] = roll(text, 6 + 2 * given + i % given);
-        i += 1;
+    for (i, place) in list.iter_mut().enumerate() {
+        *place = roll(text, 6 + 2 * given + i % given);
     }
 }
 
 // What the list holds before the call: each place its own number, from 65,535 down.
 fn count_down(list: &mut [u16]) {
-    let mut i = 0;
-    while i < list.len() {
-        list[i] = (65535 - i % 65536) as u16;
-        i += 1;
+    for (i, place) in list.iter_mut().enumerate() {
+        *place = (65535 - i % 65536) as u16;
     }
-}
-
-fn wide(x: u16) -> u64 {
-    x as u64
 }
 
 // A list in one number: turned by nine bits for each place, and changed by what stands there.
 fn print(list: &[u16]) -> u64 {
     let mut print: u64 = 0;
-    let mut i = 0;
-    while i < list.len() {
-        print = (print << 9 | print >> 55) ^ wide(list[i]);
-        i += 1;
+    for &position in list {
+        print = print.rotate_left(9) ^ u64::from(position);
     }
     print
 }
@@ -81,7 +70,7 @@ fn lent(
     order: &mut [u16],
 ) -> Reply {
     count_down(order);
-    let number = nearest(
+    let answer = nearest(
         number_of(text, 0),
         number_of(text, 1),
         eastings,
@@ -89,7 +78,7 @@ fn lent(
         rolls,
         order,
     );
-    Reply::List(number, print(order))
+    Reply::List(number(answer), print(order))
 }
 
 // The same where so many schools are given.
@@ -117,18 +106,14 @@ fn listed(text: &[u8], given: usize) -> Reply
 }
 
 // To a home and schools; none where a text has another form.
-pub(crate) fn of_schools(text: &[u8]) -> Reply {
+pub(crate) fn of_schools(text: &[u8]) -> Option<Reply> {
     if text.len() < HEAD {
-        return Reply::None;
+        return None;
     }
     let size = text.len() - HEAD;
     let given = size / SCHOOL;
-    if size % SCHOOL == 0 {
-        if 0 < given {
-            if given <= GIVEN {
-                return listed(text, given);
-            }
-        }
+    if size % SCHOOL == 0 && 0 < given && given <= GIVEN {
+        return Some(listed(text, given));
     }
-    Reply::None
+    None
 }

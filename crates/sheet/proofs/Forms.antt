@@ -1,160 +1,264 @@
--- A line has the form exactly if each field that the reader comes to is of its kind, and none is left after the twelfth.
-use Prim.Native.Nat.{ℕ, suc, ◌<◌, ◌≤◌}
-use mathlib.Core.Path.{◌≡◌, refl, sym, ap, ◌∙◌}
-use mathlib.Core.List.{List, []}
-use mathlib.Core.Bool.{Bool, true, false, ◌&&◌, and_assoc, and-false}
-use native.Mathlib.Omega.{arith}
-use borrow.Author.Tests.{eq-eqb, ne_eqb, ltb-true, ltb-false}
-use lib.ListN.{length, drop, drop_of_length-le, get_or-eq_default}
-use lib.Seq.{drop-cons}
-use lib.Dec.{eqb, ltb}
-use Rattle.letters.specs.Letters.{is_way, is_kind, way_of, kind_of}
-use Rattle.sheet.specs.Hex.{read_hex}
-use Rattle.sheet.specs.Fields.{fields, field, field_start}
-use Rattle.sheet.specs.ValueLine.{letter, is_number, number, all_numbers, has_form, read_values, letter_at, number_at}
-use Rattle.sheet.specs.declared.value_line.Letter.{Letter}
-use Rattle.sheet.specs.declared.value_line.Number.{Number}
-use Rattle.sheet.proofs.Starts.{here, ended, goes_on}
+-- What the reader's steps find of a line's fields is what the line says.
+use Rattle.std.proofs.Common.{◌≡◌, ℕ, zero, suc, List, [], ◌∷◌, Bool, true, false, cond, ◌&&◌, length, drop, get_or, map, Some, None, refl, ap, sym, ◌∙◌, arith, ne_eqb}
+use borrow.Author.Tests.{eqb-true}
+use Rattle.std.specs.Prelude.{Option, eqb, Float}
+use lib.Ieee.{nan}
+use Rattle.std.proofs.lemmas.Bool.Decides.{nat_tests}
+use Rattle.std.specs.Option.{option_map}
+use Rattle.std.specs.Result.{result_ok}
+use Rattle.letters.specs.Ascii.{ascii}
+use Rattle.letters.specs.declared.Way.{Way}
+use Rattle.letters.specs.declared.Kind.{Kind}
+use Rattle.letters.specs.Letters.{one_of, is_way, is_kind, way_of, kind_of, way_from, kind_from}
+use Rattle.sheet.specs.Fields.{fields, field}
+use Rattle.sheet.specs.ValueLine.{letter, is_number, number, all_numbers, has_form, read_values, read_line, first_letter, first_numbers}
+use Rattle.sheet.specs.declared.value_line.Values.{Values}
 
-swap : (a b c : Bool) → (a && (b && c)) ≡ (b && (a && c))
-swap true b c = refl
-swap false true c = refl
-swap false false c = refl
+-- ---- the steps, one after the other
 
-to_front : (e w k n : Bool) → (w && (k && (e && n))) ≡ (e && (w && (k && n)))
-to_front e true true n = refl
-to_front e true false n = sym (and-false e)
-to_front e false k n = sym (and-false e)
+abbrev values : Way → Kind → List Float → Values
+values w k xs =
+    record {
+      way = w;
+      kind = k;
+      a = get_or xs 0 nan;
+      f = get_or xs 1 nan;
+      settings =
+          record {
+            lon0 = get_or xs 2 nan;
+            lat0 = get_or xs 3 nan;
+            lat1 = get_or xs 4 nan;
+            lat2 = get_or xs 5 nan;
+            false_easting = get_or xs 6 nan;
+            false_northing = get_or xs 7 nan;
+          };
+      u = get_or xs 8 nan;
+      v = get_or xs 9 nan;
+    }
 
-module _ (l : List ℕ) where
-  -- twelve fields, of which those from the i-th on are numbers
-  abbrev from : ℕ → Bool
-  from i = eqb (length (fields l)) 12 && all_numbers (drop i (fields l))
+-- the numbers, where no field is left
+abbrev at_end : Option (List Float) → List (List ℕ) → Option (List Float)
+at_end None fs = None
+at_end (Some xs) [] = Some xs
+at_end (Some xs) (f ∷ fs) = None
 
-  -- a field that the line lacks is no number
-  lacks : (i : ℕ) → length (fields l) ≤ i → is_number (field l i) ≡ false
-  unfolding is_number field read_hex
-  lacks i h = let e = get_or-eq_default (fields l) [] h in rw e
+abbrev with_kind : Way → Option Kind → List (List ℕ) → Option Values
+with_kind w None fs = None
+with_kind w (Some k) fs = option_map (values w k) (at_end (first_numbers 10 fs) (drop 10 fs))
 
-  short : (i : ℕ) → length (fields l) < 12 → from i ≡ false
-  short i h = let e : eqb (length (fields l)) 12 ≡ false = ne_eqb _ _ (λ (n : length (fields l) ≡ 12). omega arith) in simp e
+abbrev with_second : Way → Option ℕ → List (List ℕ) → Option Values
+with_second w None fs = None
+with_second w (Some b) fs = with_kind w (result_ok (kind_from b)) fs
 
-  one : (i : ℕ) → i < 12 → from i ≡ (is_number (field l i) && from (suc i))
-  unfolding all_numbers field
-  one i k = go (ltb i (length (fields l))) refl
+abbrev with_way : Option Way → List (List ℕ) → Option Values
+with_way None fs = None
+with_way (Some w) fs = with_second w (first_letter fs) (drop 1 fs)
+
+abbrev with_first : Option ℕ → List (List ℕ) → Option Values
+with_first None fs = None
+with_first (Some b) fs = with_way (result_ok (way_from b)) fs
+
+-- ---- and what they give
+
+same_suc : (a n : ℕ) → eqb (suc a) (suc n) ≡ eqb a n
+same_suc a n = grind (arith, nat_tests)
+
+exact : (n : ℕ) (fs : List (List ℕ)) → at_end (first_numbers n fs) (drop n fs) ≡ cond (eqb (length fs) n && all_numbers fs) (Some (map number fs)) None
+unfolding first_numbers all_numbers
+exact zero [] = refl
+exact zero (f ∷ fs) = let e : eqb (suc (length fs)) 0 ≡ false = ne_eqb _ _ (λ (n : suc (length fs) ≡ 0). omega arith) in rw e
+exact (suc n) [] = let e : eqb 0 (suc n) ≡ false = ne_eqb _ _ (λ (z : 0 ≡ suc n). omega arith) in rw e
+exact (suc n) (f ∷ fs) = rw (same_suc (length fs) n) (go (is_number f) (eqb (length fs) n) (all_numbers fs) (first_numbers n fs) (drop n fs) (exact n fs))
+  where
+    go : (g e a : Bool) (r : Option (List Float)) (d : List (List ℕ)) → at_end r d ≡ cond (e && a) (Some (map number fs)) None
+        → at_end (cond g (option_map (λ xs. number f ∷ xs) r) None) d ≡ cond (e && (g && a)) (Some (number f ∷ map number fs)) None
+    go false true a r d h = refl
+    go false false a r d h = refl
+    go true e a None d h = more e a h
+      where
+        more : (e a : Bool) → None ≡ cond (e && a) (Some (map number fs)) None → None ≡ cond (e && a) (Some (number f ∷ map number fs)) None
+        more true true h = cc
+        more true false h = refl
+        more false a h = refl
+    go true e a (Some xs) [] h = more e a h
+      where
+        more : (e a : Bool) → Some xs ≡ cond (e && a) (Some (map number fs)) None → Some (number f ∷ xs) ≡ cond (e && a) (Some (number f ∷ map number fs)) None
+        more true true h = cc
+        more true false h = cc
+        more false a h = cc
+    go true e a (Some xs) (y ∷ d) h = more e a h
+      where
+        more : (e a : Bool) → None ≡ cond (e && a) (Some (map number fs)) None → None ≡ cond (e && a) (Some (number f ∷ map number fs)) None
+        more true true h = cc
+        more true false h = refl
+        more false a h = refl
+
+abbrev said : Way → Kind → List (List ℕ) → Values
+said w k fs =
+    record {
+      way = w;
+      kind = k;
+      a = number (get_or fs 0 []);
+      f = number (get_or fs 1 []);
+      settings =
+          record {
+            lon0 = number (get_or fs 2 []);
+            lat0 = number (get_or fs 3 []);
+            lat1 = number (get_or fs 4 []);
+            lat2 = number (get_or fs 5 []);
+            false_easting = number (get_or fs 6 []);
+            false_northing = number (get_or fs 7 []);
+          };
+      u = number (get_or fs 8 []);
+      v = number (get_or fs 9 []);
+    }
+
+ten : (w : Way) (k : Kind) (fs : List (List ℕ)) → length fs ≡ 10 → values w k (map number fs) ≡ said w k fs
+ten w k [] e = absurd (omega arith)
+ten w k (a ∷ []) e = absurd (omega arith)
+ten w k (a ∷ f ∷ []) e = absurd (omega arith)
+ten w k (a ∷ f ∷ b ∷ []) e = absurd (omega arith)
+ten w k (a ∷ f ∷ b ∷ c ∷ []) e = absurd (omega arith)
+ten w k (a ∷ f ∷ b ∷ c ∷ d ∷ []) e = absurd (omega arith)
+ten w k (a ∷ f ∷ b ∷ c ∷ d ∷ g ∷ []) e = absurd (omega arith)
+ten w k (a ∷ f ∷ b ∷ c ∷ d ∷ g ∷ h ∷ []) e = absurd (omega arith)
+ten w k (a ∷ f ∷ b ∷ c ∷ d ∷ g ∷ h ∷ i ∷ []) e = absurd (omega arith)
+ten w k (a ∷ f ∷ b ∷ c ∷ d ∷ g ∷ h ∷ i ∷ u ∷ []) e = absurd (omega arith)
+ten w k (a ∷ f ∷ b ∷ c ∷ d ∷ g ∷ h ∷ i ∷ u ∷ v ∷ fs) e = refl
+
+numbers : (w : Way) (k : Kind) (fs : List (List ℕ))
+    → option_map (values w k) (at_end (first_numbers 10 fs) (drop 10 fs)) ≡ cond (eqb (length fs) 10 && all_numbers fs) (Some (said w k fs)) None
+numbers w k fs = rw (exact 10 fs) (go (eqb (length fs) 10) (all_numbers fs) refl)
+  where
+    go : (e a : Bool) → eqb (length fs) 10 ≡ e → option_map (values w k) (cond (e && a) (Some (map number fs)) None) ≡ cond (e && a) (Some (said w k fs)) None
+    go true true p = ap Some (ten w k fs (eqb-true _ _ p))
+    go true false p = refl
+    go false a p = refl
+
+abbrev form : List (List ℕ) → Bool
+form fs = eqb (length fs) 12 && is_way (letter (get_or fs 0 [])) && is_kind (letter (get_or fs 1 [])) && all_numbers (drop 2 fs)
+
+abbrev all_said : List (List ℕ) → Values
+all_said fs =
+    record {
+      way = way_of (letter (get_or fs 0 []));
+      kind = kind_of (letter (get_or fs 1 []));
+      a = number (get_or fs 2 []);
+      f = number (get_or fs 3 []);
+      settings =
+          record {
+            lon0 = number (get_or fs 4 []);
+            lat0 = number (get_or fs 5 []);
+            lat1 = number (get_or fs 6 []);
+            lat2 = number (get_or fs 7 []);
+            false_easting = number (get_or fs 8 []);
+            false_northing = number (get_or fs 9 []);
+          };
+      u = number (get_or fs 10 []);
+      v = number (get_or fs 11 []);
+    }
+
+abbrev line : List (List ℕ) → Option Values
+line fs = cond (form fs) (Some (all_said fs)) None
+
+no_way : {A : Type 0} (e k n : Bool) (x y : A) → cond (((e && false) && k) && n) x y ≡ y
+no_way true k n x y = refl
+no_way false k n x y = refl
+
+no_kind : {A : Type 0} (e w n : Bool) (x y : A) → cond (((e && w) && false) && n) x y ≡ y
+no_kind true true n x y = refl
+no_kind true false n x y = refl
+no_kind false w n x y = refl
+
+all_kinds : {A : Type 0} (e n : Bool) (x y : A) → cond (((e && true) && true) && n) x y ≡ cond (e && n) x y
+all_kinds true n x y = refl
+all_kinds false n x y = refl
+
+no_letter : (f : List ℕ) → eqb (length f) 1 ≡ false → letter f ≡ 0
+unfolding letter
+no_letter f e = rw e
+
+zero_way : is_way 0 ≡ false
+unfolding is_way one_of ascii
+zero_way = refl
+
+zero_kind : is_kind 0 ≡ false
+unfolding is_kind one_of ascii
+zero_kind = refl
+
+module _ (p : List ℕ) (way : is_way (letter p) ≡ true) where
+  second : (fs : List (List ℕ)) → with_second (way_of (letter p)) (first_letter fs) (drop 1 fs) ≡ line (p ∷ fs)
+  unfolding first_letter kind_from
+  second [] = refl
+  second (q ∷ fs) = go (eqb (length q) 1) refl
     where
-      go : (b : Bool) → ltb i (length (fields l)) ≡ b → from i ≡ (is_number (field l i) && from (suc i))
-      go true e =
-          let h : i < length (fields l) = ltb-true _ _ e in
-          rw (drop-cons (fields l) i []) (swap (eqb (length (fields l)) 12) (is_number (field l i)) (all_numbers (drop (suc i) (fields l))))
-      go false e =
-          let h : length (fields l) ≤ i = ltb-false _ _ e in
-          short i (omega arith) ∙ sym (rw (lacks i h))
+      is_kind_of : (b : Bool) → is_kind (letter q) ≡ b → with_kind (way_of (letter p)) (result_ok (kind_from (letter q))) fs ≡ line (p ∷ q ∷ fs)
+      is_kind_of false e = rw (e, no_kind (eqb (length (p ∷ q ∷ fs)) 12) (is_way (letter p)) (all_numbers fs))
+      is_kind_of true e =
+          rw (e, way, all_kinds (eqb (length (p ∷ q ∷ fs)) 12) (all_numbers fs), same_suc (suc (length fs)) 11, same_suc (length fs) 10)
+          (numbers (way_of (letter p)) (kind_of (letter q)) fs)
 
-  last : (is_number (field l 11) && ltb (length l) (field_start l 12)) ≡ from 11
-  unfolding all_numbers
-  last = go (ltb 11 (length (fields l))) (ltb (length l) (field_start l 12)) refl refl
-    where
-      go : (a b : Bool) → ltb 11 (length (fields l)) ≡ a → ltb (length l) (field_start l 12) ≡ b → (is_number (field l 11) && b) ≡ from 11
-      go false b p q = let h : length (fields l) ≤ 11 = ltb-false _ _ p in rw (lacks 11 h, short 11 (omega arith))
-      go true true p q =
-          let h : 11 < length (fields l) = ltb-true _ _ p in
-          let n : length (fields l) ≤ 12 = ended l 12 (ltb-true _ _ q) in
-          let d : drop 12 (fields l) ≡ [] = drop_of_length-le (fields l) n in
-          sym (one 11 (omega arith) ∙ rw (d, eq-eqb (length (fields l)) 12 (omega arith)))
-      go true false p q =
-          let n : 12 < length (fields l) = goes_on l 12 (ltb-false _ _ q) in
-          and-false (is_number (field l 11)) ∙ sym (rw (ne_eqb (length (fields l)) 12 (λ (e : length (fields l) ≡ 12). omega arith)))
+      go : (b : Bool) → eqb (length q) 1 ≡ b → with_second (way_of (letter p)) (cond b (Some (letter q)) None) fs ≡ line (p ∷ q ∷ fs)
+      go true e = is_kind_of (is_kind (letter q)) refl
+      go false e = rw (no_letter q e, zero_kind, no_kind (eqb (length (p ∷ q ∷ fs)) 12) (is_way (letter p)) (all_numbers fs))
 
-  -- ---- what the reader finds, from field to field
+steps : (fs : List (List ℕ)) → with_first (first_letter fs) (drop 1 fs) ≡ line fs
+unfolding first_letter way_from
+steps [] = refl
+steps (p ∷ fs) = go (eqb (length p) 1) refl
+  where
+    is_way_of : (b : Bool) → is_way (letter p) ≡ b → with_way (result_ok (way_from (letter p))) fs ≡ line (p ∷ fs)
+    is_way_of false e = rw (e, no_way (eqb (length (p ∷ fs)) 12) (is_kind (letter (get_or fs 0 []))) (all_numbers (drop 1 fs)))
+    is_way_of true e = let s = second p e fs in rw e (rw e at s)
 
-  abbrev letter_of : ℕ → Letter
-  letter_of i = record { byte = letter (field l i); next = field_start l (suc i) }
+    go : (b : Bool) → eqb (length p) 1 ≡ b → with_first (cond b (Some (letter p)) None) fs ≡ line (p ∷ fs)
+    go true e = is_way_of (is_way (letter p)) refl
+    go false e = rw (no_letter p e, zero_way, no_way (eqb (length (p ∷ fs)) 12) (is_kind (letter (get_or fs 0 []))) (all_numbers (drop 1 fs)))
 
-  abbrev number_of : ℕ → Number
-  number_of i = record { good = is_number (field l i); value = number (field l i); next = field_start l (suc i) }
+read_by_steps : (l : List ℕ) → read_line l ≡ with_first (first_letter (fields l)) (drop 1 (fields l))
+unfolding read_line has_form read_values field
+read_by_steps l = sym (steps (fields l))
 
-  letter_here : (i at : ℕ) (x : Letter) → at ≡ field_start l i → x ≡ letter_at l at → x ≡ letter_of i
-  unfolding letter_at field_start
-  letter_here i at x e f = f ∙ rw (e, here l i)
+-- ---- the reader's way through a line, from what is left to what is left
 
-  number_here : (i at : ℕ) (x : Number) → at ≡ field_start l i → x ≡ number_at l at → x ≡ number_of i
-  unfolding number_at field_start
-  number_here i at x e f = f ∙ rw (e, here l i)
+module _ (l : List ℕ) {s₀ : List (List ℕ)} (all : s₀ ≡ fields l) where
+  pub no_first : None ≡ first_letter s₀ → None ≡ read_line l
+  no_first h = sym (read_by_steps l ∙ rw (← all, ← h))
 
-  module _ {way kind : Letter} {a f lon0 lat0 lat1 lat2 fe fn u v : Number}
-      (way_read : way ≡ letter_at l 0) (kind_read : kind ≡ letter_at l way.next)
-      (a_read : a ≡ number_at l kind.next) (f_read : f ≡ number_at l a.next)
-      (lon0_read : lon0 ≡ number_at l f.next) (lat0_read : lat0 ≡ number_at l lon0.next)
-      (lat1_read : lat1 ≡ number_at l lat0.next) (lat2_read : lat2 ≡ number_at l lat1.next)
-      (fe_read : fe ≡ number_at l lat2.next) (fn_read : fn ≡ number_at l fe.next)
-      (u_read : u ≡ number_at l fn.next) (v_read : v ≡ number_at l u.next) where
-    is_0 : way ≡ letter_of 0
-    unfolding field_start
-    is_0 = letter_here 0 0 way refl way_read
+  module _ {b : ℕ} {s₁ : List (List ℕ)} (first : Some b ≡ first_letter s₀) (after_first : s₁ ≡ drop 1 s₀) where
+    with_b : read_line l ≡ with_way (result_ok (way_from b)) s₁
+    with_b = read_by_steps l ∙ rw (← all, ← first, ← after_first)
 
-    is_1 : kind ≡ letter_of 1
-    is_1 = letter_here 1 _ kind (ap (λ (x : Letter). x.next) is_0) kind_read
+    pub other_way : None ≡ result_ok (way_from b) → None ≡ read_line l
+    other_way h = sym (with_b ∙ rw (← h))
 
-    is_2 : a ≡ number_of 2
-    is_2 = number_here 2 _ a (ap (λ (x : Letter). x.next) is_1) a_read
+    module _ {w : Way} (way : Some w ≡ result_ok (way_from b)) where
+      with_w : read_line l ≡ with_second w (first_letter s₁) (drop 1 s₁)
+      with_w = with_b ∙ rw (← way)
 
-    is_3 : f ≡ number_of 3
-    is_3 = number_here 3 _ f (ap (λ (x : Number). x.next) is_2) f_read
+      pub no_second : None ≡ first_letter s₁ → None ≡ read_line l
+      no_second h = sym (with_w ∙ rw (← h))
 
-    is_4 : lon0 ≡ number_of 4
-    is_4 = number_here 4 _ lon0 (ap (λ (x : Number). x.next) is_3) lon0_read
+      module _ {d : ℕ} {s₂ : List (List ℕ)} (second_letter : Some d ≡ first_letter s₁) (after_second : s₂ ≡ drop 1 s₁) where
+        with_d : read_line l ≡ with_kind w (result_ok (kind_from d)) s₂
+        with_d = with_w ∙ rw (← second_letter, ← after_second)
 
-    is_5 : lat0 ≡ number_of 5
-    is_5 = number_here 5 _ lat0 (ap (λ (x : Number). x.next) is_4) lat0_read
+        pub other_kind : None ≡ result_ok (kind_from d) → None ≡ read_line l
+        other_kind h = sym (with_d ∙ rw (← h))
 
-    is_6 : lat1 ≡ number_of 6
-    is_6 = number_here 6 _ lat1 (ap (λ (x : Number). x.next) is_5) lat1_read
+        module _ {k : Kind} (kind : Some k ≡ result_ok (kind_from d)) where
+          with_k : read_line l ≡ option_map (values w k) (at_end (first_numbers 10 s₂) (drop 10 s₂))
+          with_k = with_d ∙ rw (← kind)
 
-    is_7 : lat2 ≡ number_of 7
-    is_7 = number_here 7 _ lat2 (ap (λ (x : Number). x.next) is_6) lat2_read
+          pub no_numbers : None ≡ first_numbers 10 s₂ → None ≡ read_line l
+          no_numbers h = sym (with_k ∙ rw (← h))
 
-    is_8 : fe ≡ number_of 8
-    is_8 = number_here 8 _ fe (ap (λ (x : Number). x.next) is_7) fe_read
+          module _ {xs : List Float} {s₃ : List (List ℕ)} (read : Some xs ≡ first_numbers 10 s₂) (after_numbers : s₃ ≡ drop 10 s₂) where
+            with_xs : read_line l ≡ option_map (values w k) (at_end (Some xs) s₃)
+            with_xs = with_k ∙ rw (← read, ← after_numbers)
 
-    is_9 : fn ≡ number_of 9
-    is_9 = number_here 9 _ fn (ap (λ (x : Number). x.next) is_8) fn_read
+            pub field_left : {f : List ℕ} {later : List (List ℕ)} → s₃ ≡ f ∷ later → None ≡ read_line l
+            field_left h = sym (with_xs ∙ rw h)
 
-    is_10 : u ≡ number_of 10
-    is_10 = number_here 10 _ u (ap (λ (x : Number). x.next) is_9) u_read
-
-    is_11 : v ≡ number_of 11
-    is_11 = number_here 11 _ v (ap (λ (x : Number). x.next) is_10) v_read
-
-    -- what the reader tests is the form, and what it takes are the values
-    pub read : (is_way way.byte && is_kind kind.byte
-        && (a.good && f.good && (lon0.good && lat0.good) && (lat1.good && lat2.good) && (fe.good && fn.good) && (u.good && v.good))
-        && ltb (length l) v.next
-        ≡ has_form l)
-        × (record {
-          way = way_of way.byte;
-          kind = kind_of kind.byte;
-          a = a.value;
-          f = f.value;
-          settings =
-              record {
-                lon0 = lon0.value;
-                lat0 = lat0.value;
-                lat1 = lat1.value;
-                lat2 = lat2.value;
-                false_easting = fe.value;
-                false_northing = fn.value;
-              };
-          u = u.value;
-          v = v.value;
-        }
-        ≡ read_values l)
-    unfolding has_form read_values
-    read =
-        rw (is_0, is_1, is_2, is_3, is_4, is_5, is_6, is_7, is_8, is_9, is_10, is_11) (
-          simp and_assoc
-              (rw (last, ← one 10 (omega arith), ← one 9 (omega arith), ← one 8 (omega arith), ← one 7 (omega arith), ← one 6 (omega arith))
-              (rw (← one 5 (omega arith), ← one 4 (omega arith), ← one 3 (omega arith), ← one 2 (omega arith))
-              (to_front (eqb (length (fields l)) 12) (is_way (letter (field l 0))) (is_kind (letter (field l 1))) (all_numbers (drop 2 (fields l)))))),
-          refl,
-        )
+            pub whole : s₃ ≡ [] → Some (values w k xs) ≡ read_line l
+            whole h = sym (with_xs ∙ rw h)

@@ -1,16 +1,19 @@
 -- The laws of a sheet's lines, of the text that answers them and of the room that it takes.
-use Prim.Native.Nat.{ℕ, ◌+◌, ◌-◌, ◌*◌, ◌/◌, ◌%◌, ◌<◌, ◌≤◌}
+use Prim.Native.Nat.{ℕ, suc, ◌+◌, ◌-◌, ◌*◌, ◌/◌, ◌%◌, ◌<◌, ◌≤◌}
 use mathlib.Core.Path.{◌≡◌, refl, sym, ap, ◌∙◌}
 use mathlib.Core.List.{List, [], ◌∷◌, ◌++◌}
 use mathlib.Core.Bool.{Bool, true, false, cond, ◌&&◌, and_assoc}
 use native.Mathlib.Omega.{arith}
 use borrow.Author.Tests.{eq-eqb, eqb-true, lt-ltb, le-ltb, ltb-true, ltb-false}
 use lib.Dec.{eqb, ltb}
-use lib.ListN.{length, take, drop, length-append, length-drop, drop_of_length-le}
+use lib.ListN.{length, take, length-append}
 use lib.Seq.{sets, length-sets, length-take-le, take_all}
-use Rattle.projection.specs.declared.Answer.{Answer}
-use Rattle.projection.specs.declared.Answer.TheVariants.{Refused}
-use Rattle.projection.specs.Results.{number, first_result, second_result}
+use Rattle.std.specs.Prelude.{Err}
+use Rattle.refusals.specs.Refusals.{number_of, number}
+use Rattle.refusals.specs.declared.Refusal.{Refusal}
+use Rattle.refusals.specs.declared.Refusal.TheVariants.{SheetSize, LineForm}
+use Rattle.projection.specs.Answer.{Answer}
+use Rattle.projection.specs.Results.{first_result, second_result}
 use Rattle.float.specs.Constants.{+0}
 use Rattle.letters.specs.Ascii.{ascii}
 use Rattle.sheet.specs.Fields.{before, after, joined, fields}
@@ -19,8 +22,8 @@ use Rattle.sheet.specs.Written.{Written}
 use Rattle.sheet.specs.AnswerLine.{decimal, answer_line}
 use Rattle.sheet.specs.OnTheMap.{LineOnTheMap, LinesOnTheMap, SheetOnTheMap}
 use Rattle.sheet.specs.SheetText.{answer, answer_to, lines, body, names, answer_names, same, limit, sheet_text}
-use Rattle.sheet.specs.declared.value_line.ValueLine.TheVariants.{Values, Malformed}
-use Rattle.sheet.proofs.Parts.{end_part, end_after, end_within}
+use Rattle.std.proofs.Common.{Some, None}
+use Rattle.sheet.proofs.Parts.{after_short}
 use Rattle.sheet.proofs.Starts.{fields_few}
 use Rattle.sheet.proofs.Stores.{sets_append, one_digit, row_long}
 
@@ -35,9 +38,9 @@ decimal_long n = go (ltb n 10) (ltb n 100)
     go false true = omega arith
     go false false = omega arith
 
-pub refused_long : (n : ℕ) → n < 10 → length (answer_line (Refused n)) ≡ 36
+pub refused_long : (r : Refusal) → number_of r < 10 → length (answer_line (Err r)) ≡ 36
 unfolding answer_line
-refused_long n h = omega (arith, row_long n +0 +0, ap length (one_digit n h))
+refused_long r h = omega (arith, row_long (number_of r) +0 +0, ap length (one_digit (number_of r) h))
 
 answer_long : (a : Answer) → length (answer_line a) ≤ 38
 unfolding answer_line
@@ -55,9 +58,32 @@ line_room : (l : List ℕ) → length (answer_line (answer l)) ≤ 36 + (length 
 unfolding answer read_line
 line_room l = go (has_form l) refl
   where
-    go : (b : Bool) → has_form l ≡ b → length (answer_line (answer_to (cond b (Values (read_values l)) Malformed))) ≤ 36 + (length l - 1)
-    go true e = omega (arith, form_long l e, answer_long (answer_to (Values (read_values l))))
-    go false e = let h : 2 < 10 = omega arith in omega (arith, refused_long 2 h)
+    go : (b : Bool) → has_form l ≡ b → length (answer_line (answer_to (cond b (Some (read_values l)) None))) ≤ 36 + (length l - 1)
+    go true e = omega (arith, form_long l e, answer_long (answer_to (Some (read_values l))))
+    go false e = let h : 2 < 10 = omega arith in omega (arith, refused_long LineForm h)
+
+-- what a text's lines take at most
+abbrev weight : List (List ℕ) → ℕ
+weight [] = 0
+weight (l ∷ ls) = 36 + (length l - 1) + weight ls
+
+body_weight : (ls : List (List ℕ)) → length (body ls) ≤ weight ls
+unfolding body
+body_weight [] = omega arith
+body_weight (l ∷ ls) = omega (arith, length-append (answer_line (answer l)) (body ls), line_room l, body_weight ls)
+
+lines_weight : (l : List ℕ) → weight (lines l) ≤ 36 * length l
+unfolding lines
+lines_weight [] = omega arith
+lines_weight (x ∷ l) = go (eqb x 10) (lines l) (lines_weight l)
+  where
+    go : (b : Bool) (ls : List (List ℕ)) → weight ls ≤ 36 * length l → weight (cond b ([] ∷ ls) (joined x ls)) ≤ 36 * suc (length l)
+    go true ls h = omega arith
+    go false [] h = omega arith
+    go false (p ∷ ps) h = omega arith
+
+body_room : (l : List ℕ) → length (body (lines l)) ≤ 36 * length l
+body_room l = omega (arith, body_weight (lines l), lines_weight l)
 
 -- ---- the lines
 
@@ -76,75 +102,54 @@ first_line x (y ∷ l) = go (eqb x 10) (first_line y l)
     go true ih = refl
     go false ih = ap (joined x) ih
 
--- the first line's answer, then the others'
-body_first : (l : List ℕ) → 0 < length l → body (lines l) ≡ answer_line (answer (before 10 l)) ++ body (lines (after 10 l))
-unfolding body
-body_first [] h = absurd (omega arith)
-body_first (x ∷ l) h = rw (first_line x l)
+pub next_lines : (l : List ℕ) → 0 < length l → lines l ≡ before 10 l ∷ lines (after 10 l)
+next_lines [] h = absurd (omega arith)
+next_lines (x ∷ l) h = first_line x l
 
--- if the lines from i on are on the map, all from `from` on are
-pub record Mapping (s : List ℕ) (from i : ℕ) : Type 0 where
-  pub all : LinesOnTheMap (lines (drop i s)) → LinesOnTheMap (lines (drop from s))
+pub no_lines : (l : List ℕ) → length l ≡ 0 → lines l ≡ []
+unfolding lines
+no_lines [] h = refl
+no_lines (x ∷ l) h = absurd (omega arith)
 
-lines_first : (l : List ℕ) → 0 < length l → lines l ≡ before 10 l ∷ lines (after 10 l)
-lines_first [] h = absurd (omega arith)
-lines_first (x ∷ l) h = first_line x l
-
-module _ (s : List ℕ) (from i : ℕ) (m : Mapping s from i) where
-  pub maps_on : (e : ℕ) (a : Answer) → i < length s → e ≡ i + length (before 10 (drop i s)) → a ≡ answer (take (e - i) (drop i s))
-      → LineOnTheMap (take (e - i) (drop i s)) a → Mapping s from (e + 1)
-  unfolding LinesOnTheMap
-  maps_on e a h k p on =
-      let within : i ≤ length s = omega arith in
-      let part = end_part 10 s i e within k in
-      let n : 0 < length (drop i s) = simp length-drop (omega arith) in
-      record { all = λ rest. m.all (rw (lines_first (drop i s) n) (rw (p, part) at on, rw (end_after 10 s i e within k) rest)) }
-
-  pub maps_all : length s ≤ i → LinesOnTheMap (lines (drop from s))
-  unfolding LinesOnTheMap lines
-  maps_all h = m.all (rw (drop_of_length-le s h) tt)
-
--- The loop's invariant: what is still to be written makes the whole text, and there is room for it.
-pub record Writing (s l₀ : List ℕ) (at from : ℕ) (l : List ℕ) (w i : ℕ) : Type 0 where
+-- The loop's invariant: what is still to be written makes the whole text, there is room for it, and if the lines that are left are on the
+-- map, all are.
+pub record Writing (all : List (List ℕ)) (l₀ : List ℕ) (at : ℕ) (left : List (List ℕ)) (l : List ℕ) (w : ℕ) : Type 0 where
   pub kept : length l ≡ length l₀
-  pub room : w + 36 * (length s - i) ≤ length l₀
-  pub count : w + length (body (lines (drop i s))) ≡ at + length (body (lines (drop from s)))
-  pub rest : sets l w (body (lines (drop i s))) ≡ sets l₀ at (body (lines (drop from s)))
+  pub room : at + length (body all) ≤ length l₀
+  pub count : w + length (body left) ≡ at + length (body all)
+  pub rest : sets l w (body left) ≡ sets l₀ at (body all)
+  pub mapped : LinesOnTheMap left → LinesOnTheMap all
 
-module _ (s l₀ : List ℕ) (at from : ℕ) (l : List ℕ) (w i : ℕ) (v : Writing s l₀ at from l w i) where
-  module _ (e : ℕ) (a : Answer) (h : i < length s) (k : e ≡ i + length (before 10 (drop i s))) (p : a ≡ answer (take (e - i) (drop i s))) where
-    at_most : i ≤ length s
-    at_most = omega arith
+pub starts : (s t l : List ℕ) (at : ℕ) → t ≡ s → at + 36 * length s ≤ length l → Writing (lines s) l at (lines t) l at
+starts s t l at e h = rw e (record { kept = refl; room = omega (arith, body_room s); count = refl; rest = refl; mapped = λ m. m })
 
-    same_answer : a ≡ answer (before 10 (drop i s))
-    same_answer = p ∙ ap answer (end_part 10 s i e at_most k)
-
-    takes : length (answer_line a) ≤ 36 + (length (before 10 (drop i s)) - 1)
-    takes = rw same_answer (line_room (before 10 (drop i s)))
+module _ (all : List (List ℕ)) (l₀ : List ℕ) (at : ℕ) (left : List (List ℕ)) (l : List ℕ) (w : ℕ) (v : Writing all l₀ at left l w) where
+  module _ (x : List ℕ) (later : List (List ℕ)) (a : Answer) (e : left ≡ x ∷ later) (p : a ≡ answer x) where
+    next : body left ≡ answer_line a ++ body later
+    unfolding body
+    next = rw (e, p)
 
     pub fits : w + length (answer_line a) ≤ length l
-    fits = omega (arith, takes, v.room, v.kept, end_within 10 s i e at_most k)
+    fits = omega (arith, v.room, v.count, v.kept, ap length next, length-append (answer_line a) (body later))
 
-    next : body (lines (drop i s)) ≡ answer_line a ++ body (lines (drop (e + 1) s))
-    next =
-        let n : 0 < length (drop i s) = simp length-drop (omega arith) in
-        rw (same_answer, ← end_after 10 s i e at_most k) (body_first (drop i s) n)
-
-    pub writes : (r : ℕ) (m : List ℕ) → Written l w (answer_line a) r m → Writing s l₀ at from m r (e + 1)
-    writes r m o =
+    pub writes : (r : ℕ) (m : List ℕ) → Written l w (answer_line a) r m → LineOnTheMap x a → Writing all l₀ at later m r
+    unfolding LinesOnTheMap
+    writes r m o on =
         record {
           kept = rw o.stored (length-sets l w (answer_line a) ∙ v.kept);
-          room = omega (arith, takes, v.room, o.place, end_within 10 s i e at_most k);
-          count = omega (arith, v.count, o.place, ap length next, length-append (answer_line a) (body (lines (drop (e + 1) s))));
-          rest = rw (o.stored, o.place) (sym (sets_append l w (answer_line a) (body (lines (drop (e + 1) s)))) ∙ rw (← next) v.rest);
+          room = v.room;
+          count = omega (arith, v.count, o.place, ap length next, length-append (answer_line a) (body later));
+          rest = rw (o.stored, o.place) (sym (sets_append l w (answer_line a) (body later)) ∙ rw (← next) v.rest);
+          mapped = λ rest. v.mapped (rw e (rw p at on, rest));
         }
 
-  pub stops : length s ≤ i → Written l₀ at (body (lines (drop from s))) w l
-  unfolding lines body
-  stops h =
-      let n : drop i s ≡ [] = drop_of_length-le s h in
-      let z : body (lines (drop i s)) ≡ [] = rw n in
-      record { place = omega (arith, v.count, ap length z); within = omega (arith, v.room); stored = rw z at v.rest }
+  pub stops : left ≡ [] → Written l₀ at (body all) w l
+  unfolding body
+  stops e = let z : body left ≡ [] = rw e in record { place = omega (arith, v.count, ap length z); within = omega (arith, v.count, v.room, ap length z); stored = rw z at v.rest }
+
+  pub maps_all : left ≡ [] → LinesOnTheMap all
+  unfolding LinesOnTheMap
+  maps_all e = v.mapped (rw e tt)
 
 -- ---- the whole sheet
 
@@ -175,40 +180,30 @@ pub not_both : {b : Bool} → b ≡ false → b ≡ true → ⊥
 not_both p q = let z : true ≡ false = sym q ∙ p in let y : ◌≡◌ {A = ℕ} 0 1 = cc in omega arith
 
 module _ (s : List ℕ) where
-  pub over : limit < length s → sheet_text s ≡ answer_line (Refused 1)
+  pub over : limit < length s → sheet_text s ≡ answer_line (Err SheetSize)
   unfolding sheet_text
   over h = simp (lt-ltb _ _ h)
 
   pub over_lines : limit < length s → SheetOnTheMap s
   over_lines h k n = absurd (omega arith)
 
-  module _ (e : ℕ) (h : length s ≤ limit) (k : e ≡ 0 + length (before 10 (drop 0 s))) where
-    front : take e s ≡ before 10 s
-    front = let z : e - 0 ≡ e = omega arith in rw z at (end_part 10 s 0 e (omega arith) k)
-
-    pub right : take e s ≡ names → sheet_text s ≡ answer_names ++ body (lines (drop (e + 1) s))
+  module _ (h : length s ≤ limit) where
+    pub right : before 10 s ≡ names → sheet_text s ≡ answer_names ++ body (lines (after 10 s))
     unfolding sheet_text
-    right n =
-        let m : before 10 s ≡ names = sym front ∙ n in
-        simp (le-ltb _ _ h) (rw (m, same_refl names, end_after 10 s 0 e (omega arith) k))
-
-    -- the lines after the names line, where that is the first
-    pub right_lines : LinesOnTheMap (lines (drop (e + 1) s)) → SheetOnTheMap s
-    right_lines m h' n = rw (end_after 10 s 0 e (omega arith) k) m
+    right n = simp (le-ltb _ _ h) (rw (n, same_refl names))
 
     -- a sheet with another first line has none
-    pub wrong_lines : (take e s ≡ names → ⊥) → SheetOnTheMap s
-    wrong_lines q h' n = absurd (q (front ∙ n))
+    pub wrong_lines : (before 10 s ≡ names → ⊥) → SheetOnTheMap s
+    wrong_lines q h' n = absurd (q n)
 
-    pub right_end : take e s ≡ names → e ≡ 42
+    -- the names line and the byte that ends it are no part of what is left
+    pub right_rest : before 10 s ≡ names → length (after 10 s) ≤ length s - 43
     unfolding names ascii
-    right_end n = omega (arith, k, ap length (sym front ∙ n))
+    right_rest n = omega (arith, after_short 10 s, ap length n)
 
-    pub wrong : (b : Bool) → b ≡ false → (take e s ≡ names → b ≡ true) → sheet_text s ≡ answer_line (Refused 2)
+    pub wrong : (b : Bool) → b ≡ false → (before 10 s ≡ names → b ≡ true) → sheet_text s ≡ answer_line (Err LineForm)
     unfolding sheet_text
-    wrong b p q =
-        simp (le-ltb _ _ h)
-        (rw (same_false (before 10 s) names (λ m. not_both p (q (front ∙ m)))))
+    wrong b p q = simp (le-ltb _ _ h) (rw (same_false (before 10 s) names (λ m. not_both p (q m))))
 
 -- one byte over the limit is enough of a sheet
 pub enough : (s : List ℕ) → sheet_text (take (limit + 1) s) ≡ sheet_text s

@@ -1,29 +1,30 @@
 -- The laws of `before` and `after`, as a search for the next separator meets them.
-use Prim.Native.Nat.{ℕ, suc, ◌+◌, ◌-◌, ◌<◌, ◌≤◌}
-use mathlib.Core.Path.{◌≡◌, refl, ap, ◌∙◌}
-use mathlib.Core.List.{List, [], ◌∷◌}
-use mathlib.Core.Bool.{Bool, true, false, cond}
-use native.Mathlib.Omega.{arith}
-use native.Mathlib.Numerals.{add-one}
-use borrow.Author.Tests.{eq-eqb, ne_eqb}
-use lib.Dec.{eqb}
-use lib.ListN.{length, drop, take, get_or, drop_of_length-le, length-drop}
-use lib.Seq.{drop-cons, drop-drop}
-use Rattle.sheet.specs.Fields.{before, after}
+use Rattle.std.proofs.Common.{◌≡◌, ◌≢◌, ℕ, zero, suc, ◌+◌, ◌-◌, ◌<◌, ◌≤◌, List, [], ◌∷◌, Bool, true, false, cond, length, drop, take, get_or, Some, None, All, refl, ap, arith, eq-eqb, ne_eqb}
+use Rattle.std.proofs.lemmas.List.Elements.{All-head, All-tail}
+use Rattle.std.specs.Borrow.{Bor}
+use Rattle.std.specs.Prelude.{Option, eqb}
+use Rattle.std.specs.Option.{option_copied, unwrap_or}
+use Rattle.sheet.specs.Fields.{before, after, past}
 
--- `before` at a list's end, at a c and at another byte
-module _ (c : ℕ) (l : List ℕ) (i : ℕ) where
-  pub before_end : length l ≤ i → before c (drop i l) ≡ []
-  unfolding before
-  before_end h = let n : drop i l ≡ [] = drop_of_length-le l h in rw n
+-- ---- where the first c stands, and where none does
 
-  pub before_c : i < length l → get_or l i 0 ≡ c → before c (drop i l) ≡ []
-  unfolding before
-  before_c h e = rw (drop-cons l i 0) (simp (eq-eqb (get_or l i 0) c e))
+pub first_c : (c : ℕ) (l : List ℕ) (i : ℕ) → i < length l → get_or l i 0 ≡ c → ((k : ℕ) → k < i → get_or l k 0 ≢ c)
+    → (take i l ≡ before c l) × (past c l ≡ Some (drop (suc i) l))
+unfolding before past
+first_c c [] i h e n = absurd (omega arith)
+first_c c (x ∷ l) zero h e n = (simp (eq-eqb x c e), simp (eq-eqb x c e))
+first_c c (x ∷ l) (suc i) h e n =
+    let other : eqb x c ≡ false = ne_eqb x c (n 0 (omega arith)) in
+    let later = first_c c l i (omega arith) e (λ k q. n (suc k) (omega arith)) in
+    (rw other (ap (λ (m : List ℕ). x ∷ m) later.0), rw other later.1)
 
-  pub before_more : i < length l → (get_or l i 0 ≡ c → ⊥) → before c (drop i l) ≡ get_or l i 0 ∷ before c (drop (i + 1) l)
-  unfolding before
-  before_more h e = rw (add-one, drop-cons l i 0) (simp (ne_eqb (get_or l i 0) c e))
+pub no_c : (c : ℕ) (l : List ℕ) → All (λ b. b ≢ c) l → (l ≡ before c l) × (past c l ≡ None)
+unfolding before past
+no_c c [] h = (refl, refl)
+no_c c (x ∷ l) h =
+    let other : eqb x c ≡ false = ne_eqb x c (All-head (λ b. b ≢ c) x l h) in
+    let later = no_c c l (All-tail (λ b. b ≢ c) x l h) in
+    (rw other (ap (λ (m : List ℕ). x ∷ m) later.0), rw other later.1)
 
 -- the bytes before a c are the first ones
 pub before_take : (c : ℕ) (l : List ℕ) → take (length (before c l)) l ≡ before c l
@@ -35,37 +36,26 @@ before_take c (x ∷ l) = go (before_take c l) (eqb x c)
     go ih true = refl
     go ih false = ap (λ (m : List ℕ). x ∷ m) ih
 
-before_short : (c : ℕ) (l : List ℕ) → length (before c l) ≤ length l
-unfolding before
-before_short c [] = omega arith
-before_short c (x ∷ l) = go (before_short c l) (eqb x c)
+pub after_short : (c : ℕ) (l : List ℕ) → length (after c l) ≤ length l - (length (before c l) + 1)
+unfolding after before
+after_short c [] = omega arith
+after_short c (x ∷ l) = go (after_short c l) (eqb x c)
   where
-    go : length (before c l) ≤ length l → (b : Bool) → length (cond b [] (x ∷ before c l)) ≤ suc (length l)
+    go : length (after c l) ≤ length l - (length (before c l) + 1)
+        → (b : Bool) → length (cond b l (after c l)) ≤ suc (length l) - (length (cond b [] (x ∷ before c l)) + 1)
     go ih true = omega arith
     go ih false = omega arith
 
--- what is after a c is past the bytes before it and the c
-after_drop : (c : ℕ) (l : List ℕ) → after c l ≡ drop (suc (length (before c l))) l
-unfolding before after
-after_drop c [] = refl
-after_drop c (x ∷ l) = go (after_drop c l) (eqb x c)
+pub after_past : (c : ℕ) (l : List ℕ) → after c l ≡ unwrap_or (past c l) []
+unfolding after past
+after_past c [] = refl
+after_past c (x ∷ l) = go (after_past c l) (eqb x c)
   where
-    go : after c l ≡ drop (suc (length (before c l))) l → (b : Bool) → cond b l (after c l) ≡ drop (length (cond b [] (x ∷ before c l))) l
+    go : after c l ≡ unwrap_or (past c l) [] → (b : Bool) → cond b l (after c l) ≡ unwrap_or (cond b (Some l) (past c l)) []
     go ih true = refl
     go ih false = ih
 
--- ---- what the place where a part ends says
-
-module _ (c : ℕ) (s : List ℕ) (from r : ℕ) (h : from ≤ length s) (e : r ≡ from + length (before c (drop from s))) where
-  pub end_within : r ≤ length s
-  end_within = omega (arith, before_short c (drop from s), length-drop from s)
-
-  pub end_part : take (r - from) (drop from s) ≡ before c (drop from s)
-  end_part =
-      let k : r - from ≡ length (before c (drop from s)) = omega arith in
-      rw k (before_take c (drop from s))
-
-  pub end_after : after c (drop from s) ≡ drop (r + 1) s
-  end_after =
-      let k : from + suc (length (before c (drop from s))) ≡ r + 1 = omega arith in
-      after_drop c (drop from s) ∙ drop-drop _ from s ∙ ap (λ (n : ℕ). drop n s) k
+-- a part that is past the first c, or else the default, as `unwrap_or` gives it
+pub past_or : (r : Option (Bor (List ℕ))) (d : Bor (List ℕ)) (o : Option (List ℕ)) → option_copied r ≡ o → d.now ≡ [] → (unwrap_or r d).now ≡ unwrap_or o []
+past_or None d o e n = rw (← e) n
+past_or (Some x) d o e n = rw (← e) refl

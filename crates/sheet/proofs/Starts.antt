@@ -1,5 +1,5 @@
 -- The cursor's laws: field i is the part from its start to the next comma, and past the line's end there are no fields.
-use Prim.Native.Nat.{ℕ, zero, suc, ◌+◌, ◌-◌, ◌<◌, ◌≤◌}
+use Prim.Native.Nat.{ℕ, zero, suc, ◌+◌, ◌<◌, ◌≤◌}
 use mathlib.Core.Path.{◌≡◌, refl, sym, ap, ◌∙◌}
 use mathlib.Core.List.{List, [], ◌∷◌}
 use mathlib.Core.Bool.{Bool, true, false, cond}
@@ -7,10 +7,15 @@ use native.Mathlib.Omega.{arith}
 use native.Mathlib.Nat.{zero-add, suc-add, add-zero}
 use borrow.Author.Tests.{lt-ltb, le-ltb, ltb-true, ltb-false}
 use lib.Dec.{eqb, ltb}
-use lib.ListN.{length, drop, take, get_or, length-drop, get_or-eq_default}
+use lib.ListN.{length, drop, take, get_or}
 use lib.Seq.{drop-drop, get_or-drop}
-use Rattle.sheet.proofs.Parts.{before_end, end_within, end_part}
-use Rattle.sheet.specs.Fields.{before, joined, fields, field, field_at, next_start, field_start}
+use Rattle.std.proofs.Common.{Some, None}
+use Rattle.std.proofs.lemmas.Option.{unwrap_or-slice_get}
+use Rattle.std.specs.Borrow.{Bor}
+use Rattle.std.specs.Prelude.{Option, slice_get}
+use Rattle.std.specs.Option.{option_copied, option_map, option_map_or, unwrap_or}
+use Rattle.sheet.proofs.Parts.{before_take, past_or}
+use Rattle.sheet.specs.Fields.{before, past, joined, fields, field, field_at, next_start, field_start}
 
 pub fields_few : (l : List ℕ) → length (fields l) ≤ suc (length l)
 unfolding fields
@@ -94,31 +99,6 @@ module _ (l : List ℕ) (at : ℕ) where
           let n : at + length (field_at l at) + 1 ≡ at + suc (length (field_at l at)) = omega arith in
           rw (next_within h, n) (rest_next l at h)
 
--- what the next start says of the part that ends before it
-module _ (l : List ℕ) (at next : ℕ) (e : next ≡ next_start l at) where
-  pub present : at < next → at ≤ length l
-  present h = go (ltb (length l) at) refl
-    where
-      go : (b : Bool) → ltb (length l) at ≡ b → at ≤ length l
-      go true p = absurd (omega (arith, next_past l at (ltb-true _ _ p)))
-      go false p = ltb-false _ _ p
-
-  part_last : at < next → next - 1 ≡ at + length (field_at l at)
-  part_last h = omega (arith, next_within l at (present h))
-
-  pub part_end : at < next → next - 1 ≤ length l
-  part_end h = end_within 44 l at _ (present h) (part_last h)
-
-  pub part_here : at < next → take (next - 1 - at) (drop at l) ≡ field_at l at
-  part_here h = end_part 44 l at _ (present h) (part_last h)
-
-  pub part_past : next ≤ at → field_at l at ≡ []
-  part_past h = before_end 44 l at (go (ltb (length l) at) refl)
-    where
-      go : (b : Bool) → ltb (length l) at ≡ b → length l ≤ at
-      go true p = let k : length l < at = ltb-true _ _ p in omega arith
-      go false p = absurd (omega (arith, next_within l at (ltb-false _ _ p)))
-
 -- ---- field by field
 
 from_start : (l : List ℕ) (i : ℕ) → rest l (field_start l i) ≡ drop i (fields l)
@@ -132,14 +112,31 @@ pub here : (l : List ℕ) (i : ℕ) → field_at l (field_start l i) ≡ field l
 unfolding field
 here l i = sym (rest_first l (field_start l i)) ∙ rw (from_start l i) (get_or-drop i (fields l) 0 [] ∙ rw (add-zero i))
 
-module _ (l : List ℕ) (i : ℕ) where
-  pub ended : length l < field_start l i → length (fields l) ≤ i
-  ended h = omega (arith, length-drop i (fields l), ap length (sym (from_start l i) ∙ rest_none l (field_start l i) h))
+-- a field is the part of the line at its start
+pub in_line : (l m : List ℕ) (i : ℕ) → m ≡ field l i → m ≡ take (length m) (drop (field_start l i) l)
+in_line l m i e = rw (e, ← here l i) (sym (before_take 44 (drop (field_start l i) l)))
 
-  pub goes_on : field_start l i ≤ length l → i < length (fields l)
-  goes_on h = omega (arith, length-drop i (fields l), ap length (from_start l i), rest_some l (field_start l i) h)
+-- ---- the first field, and those that stand past its comma
 
-  -- a line that ends before field i has no later field
-  pub none_later : length l < field_start l i → (j : ℕ) → i ≤ j → field l j ≡ []
-  unfolding field
-  none_later h j k = let n : length (fields l) ≤ j = omega (arith, ended h) in get_or-eq_default (fields l) [] n
+fields_parts : (l : List ℕ) → fields l ≡ before 44 l ∷ option_map_or fields (past 44 l) []
+unfolding fields before past
+fields_parts [] = refl
+fields_parts (x ∷ l) = go (fields_parts l) (eqb x 44)
+  where
+    go : fields l ≡ before 44 l ∷ option_map_or fields (past 44 l) []
+        → (b : Bool) → cond b ([] ∷ fields l) (joined x (fields l)) ≡ cond b [] (x ∷ before 44 l) ∷ option_map_or fields (cond b (Some l) (past 44 l)) []
+    go ih true = refl
+    go ih false = ap (joined x) ih
+
+behind : (r : Option (Bor (List ℕ))) → option_map_or fields (option_copied r) [] ≡ option_map_or (λ x. fields x.now) r []
+behind None = refl
+behind (Some x) = refl
+
+pub next_fields : (l f : List ℕ) (r : Option (Bor (List ℕ))) → f ≡ before 44 l → option_copied r ≡ past 44 l → fields l ≡ f ∷ option_map_or (λ x. fields x.now) r []
+next_fields l f r e p = fields_parts l ∙ rw (← e, ← p, behind r)
+
+-- field i, as the iterator over the fields gives it
+pub nth_field : (l : List ℕ) (i : ℕ) (r : Option (Bor (List ℕ))) (d : Bor (List ℕ)) → option_map (λ x. x.now) r ≡ slice_get (fields l) i → d.now ≡ []
+    → (unwrap_or r d).now ≡ field l i
+unfolding field
+nth_field l i r d e n = past_or r d _ e n ∙ unwrap_or-slice_get (fields l) i []

@@ -2,8 +2,9 @@
 use Rattle.std.specs.Prelude.{ℕ, ◌+◌, ◌/◌, ◌%◌, List, [], ◌∷◌, ◌++◌, cond, ltb, Float}
 use Rattle.std.specs.Float.Ieee.{to_bits}
 use Rattle.std.specs.Float.{binary64}
-use Rattle.projection.specs.declared.Answer.{Answer}
-use Rattle.projection.specs.Results.{number, first_result, second_result}
+use Rattle.refusals.specs.Refusals.{number}
+use Rattle.projection.specs.Answer.{Answer}
+use Rattle.projection.specs.Results.{first_result, second_result}
 use Rattle.sheet.specs.Hex.{digits}
 
 -- the decimal digits of a number below 1,000; 48 is the digit 0

@@ -1,5 +1,5 @@
 -- The fields of a line: the parts between its commas, always at least one.
-use Rattle.std.specs.Prelude.{ℕ, zero, suc, ◌+◌, List, [], ◌∷◌, cond, eqb, ltb, length, drop, get_or}
+use Rattle.std.specs.Prelude.{ℕ, zero, suc, ◌+◌, List, [], ◌∷◌, cond, eqb, ltb, length, drop, get_or, Option, Some, None}
 
 -- what stands before the first c
 unfoldable pub before : ℕ → List ℕ → List ℕ
@@ -10,6 +10,11 @@ before c (x ∷ l) = cond (eqb x c) [] (x ∷ before c l)
 unfoldable pub after : ℕ → List ℕ → List ℕ
 after c [] = []
 after c (x ∷ l) = cond (eqb x c) l (after c l)
+
+-- the same, and nothing where there is no c
+unfoldable pub past : ℕ → List ℕ → Option (List ℕ)
+past c [] = None
+past c (x ∷ l) = cond (eqb x c) (Some l) (past c l)
 
 -- one byte more at the front of the first part
 abbrev pub joined : ℕ → List (List ℕ) → List (List ℕ)

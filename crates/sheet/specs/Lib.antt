@@ -4,5 +4,6 @@ pub mod ValueLine
 pub mod Written
 pub mod AnswerLine
 pub mod SheetText
+pub mod Left
 pub mod OnTheMap
 pub mod Example

@@ -1,18 +1,17 @@
 -- Demand 3 of a sheet: whatever an inverse line answers lies on the map.
-use Rattle.std.specs.Prelude.{ℕ, ◌≤◌, ◌≡◌, List, [], ◌∷◌, length}
-use Rattle.projection.specs.declared.Answer.{Answer}
+use Rattle.std.specs.Prelude.{ℕ, ◌≤◌, ◌≡◌, List, [], ◌∷◌, length, Option, Some, None}
+use Rattle.projection.specs.Answer.{Answer}
 use Rattle.kinds.specs.Kinds.{build}
 use Rattle.kinds.specs.OnTheMap.{PointOnTheMap}
 use Rattle.sheet.specs.Fields.{before, after}
 use Rattle.sheet.specs.ValueLine.{read_line}
 use Rattle.sheet.specs.SheetText.{answer, lines, names, limit}
-use Rattle.sheet.specs.declared.value_line.ValueLine.{ValueLine}
-use Rattle.sheet.specs.declared.value_line.ValueLine.TheVariants.{Values, Malformed}
+use Rattle.sheet.specs.declared.value_line.Values.{Values}
 
 -- of what a line asks for
-abbrev pub AskedOnTheMap : ValueLine → Answer → Type 0
-AskedOnTheMap (Values q) a = PointOnTheMap q.way (build q.kind q.a q.f q.settings) q.u q.v a
-AskedOnTheMap Malformed a = Unit
+abbrev pub AskedOnTheMap : Option Values → Answer → Type 0
+AskedOnTheMap (Some q) a = PointOnTheMap q.way (build q.kind q.a q.f q.settings) q.u q.v a
+AskedOnTheMap None a = Unit
 
 -- of a value line
 abbrev pub LineOnTheMap : List ℕ → Answer → Type 0

@@ -1,19 +1,17 @@
 -- A whole sheet: its lines, and the text that answers it.
-use Rattle.std.specs.Prelude.{ℕ, List, [], ◌∷◌, ◌++◌, Bool, true, false, cond, ◌&&◌, ltb, eqb, length}
-use Rattle.refusals.specs.Refusals.{SHEET_SIZE, LINE_FORM}
-use Rattle.projection.specs.declared.Answer.{Answer}
-use Rattle.projection.specs.declared.Answer.TheVariants.{Refused}
+use Rattle.std.specs.Prelude.{ℕ, List, [], ◌∷◌, ◌++◌, Bool, true, false, cond, ◌&&◌, ltb, eqb, length, Option, Some, None, Err}
+use Rattle.refusals.specs.declared.Refusal.TheVariants.{SheetSize, LineForm}
+use Rattle.projection.specs.Answer.{Answer}
 use Rattle.kinds.specs.Kinds.{project}
 use Rattle.letters.specs.Ascii.{ascii}
 use Rattle.sheet.specs.Fields.{before, after, joined}
 use Rattle.sheet.specs.ValueLine.{read_line}
 use Rattle.sheet.specs.AnswerLine.{answer_line}
-use Rattle.sheet.specs.declared.value_line.ValueLine.{ValueLine}
-use Rattle.sheet.specs.declared.value_line.ValueLine.TheVariants.{Values, Malformed}
+use Rattle.sheet.specs.declared.value_line.Values.{Values}
 
-abbrev pub answer_to : ValueLine → Answer
-answer_to (Values q) = project q.way q.kind q.a q.f q.settings q.u q.v
-answer_to Malformed = Refused LINE_FORM
+abbrev pub answer_to : Option Values → Answer
+answer_to (Some q) = project q.way q.kind q.a q.f q.settings q.u q.v
+answer_to None = Err LineForm
 
 -- the answer to a value line
 unfoldable pub answer : List ℕ → Answer
@@ -49,5 +47,5 @@ limit = 65536
 -- Else the names line, and the answers to the lines after the first.
 unfoldable pub sheet_text : List ℕ → List ℕ
 sheet_text s =
-    cond (ltb limit (length s)) (answer_line (Refused SHEET_SIZE))
-    (cond (same (before 10 s) names) (answer_names ++ body (lines (after 10 s))) (answer_line (Refused LINE_FORM)))
+    cond (ltb limit (length s)) (answer_line (Err SheetSize))
+    (cond (same (before 10 s) names) (answer_names ++ body (lines (after 10 s))) (answer_line (Err LineForm)))

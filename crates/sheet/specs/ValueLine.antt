@@ -1,29 +1,24 @@
 -- A value line: its form, and what its fields say.
-use Rattle.std.specs.Prelude.{ℕ, List, [], ◌∷◌, Bool, true, false, cond, ◌&&◌, length, drop, get_or, eqb, Float}
+use Rattle.std.specs.Prelude.{ℕ, zero, suc, List, [], ◌∷◌, Bool, true, false, cond, ◌&&◌, length, drop, get_or, eqb, Float, Option, Some, None}
+use Rattle.std.specs.Option.{option_map}
 use Rattle.std.specs.Float.Ieee.{of_bits}
 use Rattle.std.specs.Float.{binary64}
 use Rattle.letters.specs.Letters.{is_way, is_kind, way_of, kind_of}
 use Rattle.sheet.specs.Hex.{read_hex}
-use Rattle.sheet.specs.Fields.{fields, field, field_at, next_start}
-use Rattle.sheet.specs.declared.hex.Hex.{Hex}
-use Rattle.sheet.specs.declared.hex.Hex.TheVariants as hex
-use Rattle.sheet.specs.declared.value_line.Letter.{Letter}
-use Rattle.sheet.specs.declared.value_line.Number.{Number}
+use Rattle.sheet.specs.Fields.{fields, field}
 use Rattle.sheet.specs.declared.value_line.Values.{Values}
-use Rattle.sheet.specs.declared.value_line.ValueLine.{ValueLine}
-use Rattle.sheet.specs.declared.value_line.ValueLine.TheVariants as line
 
 -- the byte of a field of one byte; 0 for any other field
 unfoldable pub letter : List ℕ → ℕ
 letter f = cond (eqb (length f) 1) (get_or f 0 0) 0
 
-abbrev pub is_bits : Hex → Bool
-is_bits (hex.Bits n) = true
-is_bits hex.Malformed = false
+abbrev pub is_bits : Option ℕ → Bool
+is_bits (Some n) = true
+is_bits None = false
 
-abbrev pub bits_or_0 : Hex → ℕ
-bits_or_0 (hex.Bits n) = n
-bits_or_0 hex.Malformed = 0
+abbrev pub bits_or_0 : Option ℕ → ℕ
+bits_or_0 (Some n) = n
+bits_or_0 None = 0
 
 unfoldable pub is_number : List ℕ → Bool
 is_number f = is_bits (read_hex f)
@@ -61,13 +56,18 @@ read_values l =
       v = number (field l 11);
     }
 
-unfoldable pub read_line : List ℕ → ValueLine
-read_line l = cond (has_form l) (line.Values (read_values l)) line.Malformed
+unfoldable pub read_line : List ℕ → Option Values
+read_line l = cond (has_form l) (Some (read_values l)) None
 
--- ---- the reader's steps: the field that starts at a place, and where the next one starts
+-- ---- the reader's steps, of the fields that are left
 
-unfoldable pub letter_at : List ℕ → ℕ → Letter
-letter_at l at = record { byte = letter (field_at l at); next = next_start l at }
+-- the byte of the first of them; none where none is left, or it is not of one byte
+unfoldable pub first_letter : List (List ℕ) → Option ℕ
+first_letter [] = None
+first_letter (f ∷ fs) = cond (eqb (length f) 1) (Some (letter f)) None
 
-unfoldable pub number_at : List ℕ → ℕ → Number
-number_at l at = record { good = is_number (field_at l at); value = number (field_at l at); next = next_start l at }
+-- the first n of them as numbers; none where fewer are left, or one of them is no number
+unfoldable pub first_numbers : ℕ → List (List ℕ) → Option (List Float)
+first_numbers zero fs = Some []
+first_numbers (suc n) [] = None
+first_numbers (suc n) (f ∷ fs) = cond (is_number f) (option_map (λ xs. number f ∷ xs) (first_numbers n fs)) None

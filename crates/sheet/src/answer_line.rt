@@ -52,7 +52,7 @@ pub(crate) fn put_answer(out: &mut [u8], at: usize, answer: Answer) -> usize
     ensures { Written out.old at (answer_line answer) result out.new }
 {
     match answer {
-        Answer::Pair(p, q) => put_row(out, at, 0, p, q),
-        Answer::Refused(n) => put_row(out, at, n, 0.0, 0.0),
+        Ok((p, q)) => put_row(out, at, 0, p, q),
+        Err(refusal) => put_row(out, at, refusal.number(), 0.0, 0.0),
     }
 }

@@ -1,43 +1,49 @@
 // The fields of a line, the parts between its commas, from left to right.
-ghost use Rattle.std.specs.Prelude.{◌≡◌, ◌+◌, length, take, drop};
-ghost use Rattle.sheet.specs.Fields.{before, field, field_at, field_start, next_start};
+ghost use Rattle.std.specs.Prelude.{◌≡◌, length, take, drop, option_copied};
+ghost use Rattle.sheet.specs.Fields.{before, past, field, field_start};
 
-const COMMA: u8 = b',';
-
-// The index of the first c at or after `from`, or the length where there is none; `from` itself where that is past the end.
-pub(crate) fn end_of(s: &[u8], from: usize, c: u8) -> usize
-    ensures { result ≡ from + length (before c (drop from s.now)) }
+// The bytes before the first c, and those past it where there is one.
+pub(crate) fn split_once(s: &[u8], c: u8) -> (&[u8], Option<&[u8]>)
+    ensures before { result.0.now ≡ before c s.now }
+    ensures past { option_copied result.1 ≡ past c s.now }
 {
-    let mut i = from;
-    while i < s.len() {
-        if s[i] == c {
-            return i;
-        }
-        i += 1;
-    }
-    i
-}
-
-// The start of the field after the one that starts at `at`: past its comma, or past the line's end. An `at` past the end stays.
-pub(crate) fn next_start(line: &[u8], at: usize) -> usize
-    ensures { result ≡ next_start line.now at }
-{
-    if line.len() < at {
-        at
-    } else {
-        end_of(line, at, COMMA) + 1
+    match s.iter().position(|&b| b == c) {
+        Some(i) => (&s[..i], Some(&s[i + 1..])),
+        None => (s, None),
     }
 }
 
-// The field that starts at `at`, a part of the line; an empty part where `at` is past the line's end.
-pub(crate) fn part(line: &[u8], at: usize, next: usize) -> &[u8]
-    requires { next ≡ next_start line.now at }
-    ensures { result.now ≡ field_at line.now at }
-{
-    if at < next {
-        &line[at..next - 1]
-    } else {
-        &line[..0]
+// The fields of a line that are not read yet, each a part of the caller's line.
+#[derive(Clone, Copy)]
+pub(crate) struct Fields<'a> {
+    rest: Option<&'a [u8]>,
+}
+
+impl<'a> Fields<'a> {
+    ghost use Rattle.sheet.specs.Fields.{fields};
+    ghost use Rattle.sheet.specs.Left.{fields_left};
+
+    pub(crate) fn new(line: &'a [u8]) -> Self
+        ensures { fields_left result ≡ fields line.now }
+    {
+        Fields { rest: Some(line) }
+    }
+}
+
+impl<'a> Iterator for Fields<'a> {
+    ghost use Rattle.std.specs.Iterator.{YieldsFirstRef, item_count};
+    ghost use Rattle.sheet.specs.Left.{fields_left};
+
+    type Item = &'a [u8];
+
+    ghost next_gives = { YieldsFirstRef fields_left };
+
+    ghost remaining = { item_count fields_left };
+
+    fn next(&mut self) -> Option<&'a [u8]> {
+        let (field, rest) = split_once(self.rest?, b',');
+        self.rest = rest;
+        Some(field)
     }
 }
 
@@ -46,12 +52,5 @@ pub fn field(line: &[u8], i: usize) -> &[u8]
     ensures is_field { result.now ≡ field line.now i }
     ensures in_line { result.now ≡ take (length result.now) (drop (field_start line.now i) line.now) }
 {
-    let mut start = 0;
-    for _ in 0..i {
-        if line.len() < start {
-            return &line[..0];
-        }
-        start = next_start(line, start);
-    }
-    part(line, start, next_start(line, start))
+    Fields::new(line).nth(i).unwrap_or(&[])
 }

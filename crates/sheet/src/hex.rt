@@ -3,13 +3,6 @@ ghost use Rattle.std.specs.Prelude.{◌≡◌, ◌+◌, ◌≤◌, ◌<◌, leng
 ghost use Rattle.std.proofs.lemmas.List.Edits.{sets};
 ghost use Rattle.sheet.specs.Hex.{digit_value, read_hex, glyph, digits};
 
-// What sixteen bytes say: bits, or that one of them is no digit.
-#[derive(Clone, Copy)]
-pub enum Hex {
-    Bits(u64),
-    Malformed,
-}
-
 // The value of a lowercase hexadecimal digit; 16 for any other byte.
 fn digit_value(b: u8) -> u64
     ensures { result ≡ digit_value b }
@@ -21,21 +14,22 @@ fn digit_value(b: u8) -> u64
     }
 }
 
-pub fn read_hex(field: &[u8]) -> Hex
+// What sixteen digits say; none where a byte is no digit, or the digits are more or fewer.
+pub fn read_hex(field: &[u8]) -> Option<u64>
     ensures { result ≡ read_hex field.now }
 {
     if field.len() != 16 {
-        return Hex::Malformed;
+        return None;
     }
     let mut value: u64 = 0;
-    for i in 0..16 {
-        let d = digit_value(field[i]);
+    for &b in field {
+        let d = digit_value(b);
         if 16 <= d {
-            return Hex::Malformed;
+            return None;
         }
         value = value * 16 + d;
     }
-    Hex::Bits(value)
+    Some(value)
 }
 
 // The digit of a value below 16.

@@ -8,6 +8,6 @@ mod sheet_text;
 mod value_line;
 
 pub use fields::field;
-pub use hex::{Hex, read_hex};
+pub use hex::read_hex;
 pub use sheet_text::{LIMIT, ROOM, answer, answer_sheet, answer_sheet_into};
-pub use value_line::{ValueLine, Values, read_line};
+pub use value_line::{Values, read_line};

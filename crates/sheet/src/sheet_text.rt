@@ -1,15 +1,16 @@
 // A whole sheet: its lines, and the text that answers it.
-ghost use Rattle.std.specs.Prelude.{◌≡◌, ◌+◌, ◌-◌, ◌*◌, ◌≤◌, length, drop};
+ghost use Rattle.std.specs.Prelude.{◌≡◌, ◌+◌, ◌*◌, ◌≤◌, length};
+ghost use Rattle.sheet.specs.Fields.{before, after};
 ghost use Rattle.sheet.specs.SheetText.{answer, lines, body, sheet_text};
 ghost use Rattle.sheet.specs.OnTheMap.{LineOnTheMap, LinesOnTheMap, SheetOnTheMap};
 ghost use Rattle.sheet.specs.Written.{Written, WrittenWithin};
 
 use crate::answer_line::put_answer;
-use crate::fields::end_of;
-use crate::value_line::{ValueLine, read_line};
+use crate::fields::split_once;
+use crate::value_line::read_line;
 use kinds::project;
 use projection::Answer;
-use refusals::{LINE_FORM, SHEET_SIZE};
+use refusals::Refusal;
 
 // The most bytes that a sheet may have.
 pub const LIMIT: usize = 65536;
@@ -22,26 +23,52 @@ pub fn answer(line: &[u8]) -> Answer
     ensures { (result ≡ answer line.now) × LineOnTheMap line.now result }
 {
     match read_line(line) {
-        ValueLine::Values(q) => {
-            let way = q.way;
-            let kind = q.kind;
-            project(way, kind, q.a, q.f, q.settings, q.u, q.v)
-        }
-        ValueLine::Malformed => Answer::Refused(LINE_FORM),
+        Some(q) => project(q.way, q.kind, q.a, q.f, q.settings, q.u, q.v),
+        None => Err(Refusal::LineForm),
     }
 }
 
-// Answers the lines of the input from `from` on. 36 bytes of room for each of its bytes are always enough.
-fn put_body(input: &[u8], from: usize, out: &mut [u8], at: usize) -> usize
-    requires { at + 36 * (length input.now - from) ≤ length out.old }
-    ensures { Written out.old at (body (lines (drop from input.now))) result out.new × LinesOnTheMap (lines (drop from input.now)) }
+// A text's first line, and what stands after it.
+fn split_line(text: &[u8]) -> (&[u8], &[u8])
+    ensures line { result.0.now ≡ before 10 text.now }
+    ensures rest { result.1.now ≡ after 10 text.now }
 {
-    let mut i = from;
+    let (line, rest) = split_once(text, b'\n');
+    (line, rest.unwrap_or(&[]))
+}
+
+// The lines of a text that are not read yet.
+#[derive(Clone, Copy)]
+struct Lines<'a>(&'a [u8]);
+
+impl<'a> Iterator for Lines<'a> {
+    ghost use Rattle.std.specs.Iterator.{YieldsFirstRef, item_count};
+    ghost use Rattle.sheet.specs.Left.{lines_left};
+
+    type Item = &'a [u8];
+
+    ghost next_gives = { YieldsFirstRef lines_left };
+
+    ghost remaining = { item_count lines_left };
+
+    fn next(&mut self) -> Option<&'a [u8]> {
+        if self.0.is_empty() {
+            return None;
+        }
+        let (line, rest) = split_line(self.0);
+        self.0 = rest;
+        Some(line)
+    }
+}
+
+// Answers the lines of a text. 36 bytes of room for each of its bytes are always enough.
+fn put_body(text: &[u8], out: &mut [u8], at: usize) -> usize
+    requires { at + 36 * length text.now ≤ length out.old }
+    ensures { Written out.old at (body (lines text.now)) result out.new × LinesOnTheMap (lines text.now) }
+{
     let mut w = at;
-    while i < input.len() {
-        let e = end_of(input, i, b'\n');
-        w = put_answer(out, w, answer(&input[i..e]));
-        i = e + 1;
+    for line in Lines(text) {
+        w = put_answer(out, w, answer(line));
     }
     w
 }
@@ -51,15 +78,15 @@ fn put_sheet(input: &[u8], out: &mut [u8]) -> usize
     ensures { Written out.old 0 (sheet_text input.now) result out.new × SheetOnTheMap input.now }
 {
     if LIMIT < input.len() {
-        return put_answer(out, 0, Answer::Refused(SHEET_SIZE));
+        return put_answer(out, 0, Err(Refusal::SheetSize));
     }
-    let e = end_of(input, 0, b'\n');
-    if check::same(&input[..e], b"way,kind,a,f,lon0,lat0,lat1,lat2,fe,fn,u,v") {
+    let (first, values) = split_line(input);
+    if check::same(first, b"way,kind,a,f,lon0,lat0,lat1,lat2,fe,fn,u,v") {
         let names = b"code,p,q\n";
         out[..names.len()].copy_from_slice(names);
-        put_body(input, e + 1, out, names.len())
+        put_body(values, out, names.len())
     } else {
-        put_answer(out, 0, Answer::Refused(LINE_FORM))
+        put_answer(out, 0, Err(Refusal::LineForm))
     }
 }
 

@@ -4,16 +4,16 @@ use Rattle.sheet.proofs.answer_line.put_answer.Goals as goal
 
 pub put_row-requires : goal.put_row-requires
 unfolding answer_line
-put_row-requires c = rw c.in-Pair.is at c.requires
+put_row-requires c = rw c.in-Ok.is at c.requires
 
-pub put_row-requires-in-Refused : goal.put_row-requires-in-Refused
+pub put_row-requires-in-Err : goal.put_row-requires-in-Err
 unfolding answer_line
-put_row-requires-in-Refused c = rw c.in-Refused.is at c.requires
+put_row-requires-in-Err c = rw c.number.ensures (rw c.in-Err.is at c.requires)
 
-pub returns-in-Pair : goal.returns-in-Pair
+pub returns-in-Ok : goal.returns-in-Ok
 unfolding answer_line
-returns-in-Pair c = rw c.in-Pair.is c.put_row.ensures
+returns-in-Ok c = rw c.in-Ok.is c.put_row.ensures
 
-pub returns-in-Refused : goal.returns-in-Refused
+pub returns-in-Err : goal.returns-in-Err
 unfolding answer_line
-returns-in-Refused c = rw c.in-Refused.is c.put_row-in-Refused.ensures
+returns-in-Err c = rw (c.in-Err.is, ← c.number.ensures) c.put_row-in-Err.ensures

@@ -3,10 +3,10 @@ use mathlib.Core.Path.{refl}
 use Rattle.sheet.specs.SheetText.{answer}
 use Rattle.sheet.proofs.sheet_text.answer.Goals as goal
 
-pub returns-in-Values : goal.returns-in-Values
+pub returns-in-Some : goal.returns-in-Some
 unfolding answer
-returns-in-Values c = rw (← c.read_line.ensures, c.in-Values.is) c.project.ensures
+returns-in-Some c = rw (← c.read_line.ensures, c.in-Some.is) c.project.ensures
 
-pub returns-in-Malformed : goal.returns-in-Malformed
+pub returns-in-None : goal.returns-in-None
 unfolding answer
-returns-in-Malformed c = rw (← c.read_line.ensures, c.in-Malformed.is) (refl, tt)
+returns-in-None c = rw (← c.read_line.ensures, c.in-None.is) (refl, tt)

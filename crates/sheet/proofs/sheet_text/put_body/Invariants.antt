@@ -1,11 +1,7 @@
--- What is still to be written makes the whole text, there is room for it, and what inverse lines answer is on the map.
-use Prim.Native.Nat.{◌-◌}
-use lib.ListN.{length}
-use Rattle.sheet.proofs.Lines.{Writing, Mapping}
+-- What is still to be written makes the whole text, and there is room for it.
+use Rattle.sheet.specs.SheetText.{lines}
+use Rattle.sheet.proofs.Lines.{Writing}
 use Rattle.sheet.proofs.sheet_text.put_body.Given as goal
 
-abbrev pub invariant-loop-i : goal.invariant-loop-i
-invariant-loop-i l = Writing l.input l.initial.out l.at l.from l.out l.w l.i × Mapping l.input l.from l.i
-
-abbrev pub decreases-loop-i : goal.decreases-loop-i
-decreases-loop-i l = length l.input - l.i
+abbrev pub invariant-loop-line : goal.invariant-loop-line
+invariant-loop-line l = Writing (lines l.fn.text) l.initial.out l.at (lines l.line-iterator.0.now) l.out l.w

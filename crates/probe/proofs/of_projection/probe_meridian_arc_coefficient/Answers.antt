@@ -1,5 +1,0 @@
--- made of what it calls
-use Rattle.probe.proofs.of_projection.probe_meridian_arc_coefficient.Goals as goal
-
-pub returns : goal.returns
-returns c = cc
