@@ -95,7 +95,7 @@ pub(crate) fn is_said(text: &[u8], reply: Reply) -> bool {
         Reply::Row(n, p, q) => is_row(text, n, p, q),
         Reply::Ring(n, area, points, buffers) => is_ring(text, n, area, points, buffers),
         Reply::List(n, list) => is_list(text, n, list),
-        Reply::Missing => text == b"missing",
+        Reply::Missing => text == b"missing".as_slice(),
     }
 }
 
