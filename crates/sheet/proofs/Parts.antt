@@ -1,6 +1,5 @@
 -- The laws of `before` and `after`, as a search for the next separator meets them.
-use Rattle.std.proofs.Common.{◌≡◌, ◌≢◌, ℕ, zero, suc, ◌+◌, ◌-◌, ◌<◌, ◌≤◌, List, [], ◌∷◌, Bool, true, false, cond, length, drop, take, get_or, Some, None, All, refl, ap, arith, eq-eqb, ne_eqb}
-use Rattle.std.proofs.lemmas.List.Elements.{All-head, All-tail}
+use Rattle.std.proofs.Common.{◌≡◌, ◌≢◌, ℕ, zero, suc, ◌+◌, ◌-◌, ◌<◌, ◌≤◌, List, [], ◌∷◌, Bool, true, false, cond, length, drop, take, get_or, Some, None, refl, ap, arith, eq-eqb, ne_eqb}
 use Rattle.std.specs.Borrow.{Bor}
 use Rattle.std.specs.Prelude.{Option, eqb}
 use Rattle.std.specs.Option.{option_copied, unwrap_or}
@@ -18,12 +17,13 @@ first_c c (x ∷ l) (suc i) h e n =
     let later = first_c c l i (omega arith) e (λ k q. n (suc k) (omega arith)) in
     (rw other (ap (λ (m : List ℕ). x ∷ m) later.0), rw other later.1)
 
-pub no_c : (c : ℕ) (l : List ℕ) → All (λ b. b ≢ c) l → (l ≡ before c l) × (past c l ≡ None)
+pub no_c : (c : ℕ) (l : List ℕ) (i : ℕ) → length l ≤ i → ((k : ℕ) → k < i → get_or l k 0 ≢ c) → (l ≡ before c l) × (past c l ≡ None)
 unfolding before past
-no_c c [] h = (refl, refl)
-no_c c (x ∷ l) h =
-    let other : eqb x c ≡ false = ne_eqb x c (All-head (λ b. b ≢ c) x l h) in
-    let later = no_c c l (All-tail (λ b. b ≢ c) x l h) in
+no_c c [] i h n = (refl, refl)
+no_c c (x ∷ l) zero h n = absurd (omega arith)
+no_c c (x ∷ l) (suc i) h n =
+    let other : eqb x c ≡ false = ne_eqb x c (n 0 (omega arith)) in
+    let later = no_c c l i (omega arith) (λ k q. n (suc k) (omega arith)) in
     (rw other (ap (λ (m : List ℕ). x ∷ m) later.0), rw other later.1)
 
 -- the bytes before a c are the first ones

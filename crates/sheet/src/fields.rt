@@ -7,10 +7,12 @@ pub(crate) fn split_once(s: &[u8], c: u8) -> (&[u8], Option<&[u8]>)
     ensures before { result.0.now ≡ before c s.now }
     ensures past { option_copied result.1 ≡ past c s.now }
 {
-    match s.iter().position(|&b| b == c) {
-        Some(i) => (&s[..i], Some(&s[i + 1..])),
-        None => (s, None),
+    for (i, &b) in s.iter().enumerate() {
+        if b == c {
+            return (&s[..i], Some(&s[i + 1..]));
+        }
     }
+    (s, None)
 }
 
 // The fields of a line that are not read yet, each a part of the caller's line.

@@ -40,7 +40,8 @@ fn glyph(d: u64) -> u8
     if d < 10 { 48 + d as u8 } else { 87 + d as u8 }
 }
 
-// Writes sixteen digits from `at` on. It goes from the last digit to the first.
+// Writes sixteen digits from `at` on. It goes from the last digit to the first. By an index: tried with `iter_mut().rev()`, of which no
+// clause says what the bytes then are, so the proof does not close.
 pub(crate) fn put_hex(out: &mut [u8], at: usize, bits: u64)
     requires { at + 16 ≤ length out.old }
     ensures { out.new ≡ sets out.old at (digits 16 bits) }

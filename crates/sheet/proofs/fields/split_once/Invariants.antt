@@ -1,0 +1,6 @@
+-- None of the bytes before i is c.
+use Rattle.std.proofs.Common.{◌≢◌, ℕ, ◌<◌, get_or}
+use Rattle.sheet.proofs.fields.split_once.Given as goal
+
+abbrev pub invariant-loop-i : goal.invariant-loop-i
+invariant-loop-i l = (k : ℕ) → k < l.i → get_or l.s k 0 ≢ l.c
