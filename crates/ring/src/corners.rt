@@ -1,4 +1,4 @@
-// The corners come first, in ring order.
+// The corners come first, in ring order. Both lists stand apart, as C lends them (`lenthuc_ring_area`).
 ghost use Rattle.std.specs.Prelude.{◌≡◌, ◌<◌, length};
 ghost use Rattle.ring.specs.Ring.{corners};
 ghost use Rattle.ring.specs.Tally.{first_of};

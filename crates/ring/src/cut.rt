@@ -1,4 +1,4 @@
-// The cutter.
+// The cutter. Both buffers stand apart, as C lends them (`lenthuc_ring_area`).
 ghost use Rattle.std.specs.Prelude.{◌≡◌, ◌+◌, ◌≤◌, ◌^◌};
 ghost use Rattle.ring.specs.Edge.{edge, easting_of, northing_of};
 ghost use Rattle.ring.specs.Tally.{walked, Laid};

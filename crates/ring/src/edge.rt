@@ -1,4 +1,5 @@
-// An edge: a place projected, and whether the edge is cut at its midpoint.
+// An edge: a place projected, and whether the edge is cut at its midpoint. Its ends are two points: a struct of both would be taken apart
+// at each cut.
 ghost use Rattle.std.specs.Prelude.{◌≡◌};
 ghost use Rattle.ring.specs.Edge.{halfway, place, uncut, midpoint};
 

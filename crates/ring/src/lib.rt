@@ -1,4 +1,4 @@
-// The area of a catchment ring: document 02's Q-3.
+// The area of a catchment ring: document 02's Q-3. Lists and buffers of both coordinates stand apart, as C lends them (`lenthuc_ring_area`).
 #![tactic(auto)]
 
 mod corners;
@@ -71,9 +71,7 @@ pub fn ring_area(
 {
     ring_fault(p, lon.len(), lat.len())?;
     let first = first_corner(p, lon, lat)?;
-    let mut no_easting = [0.0; 0];
-    let mut no_northing = [0.0; 0];
-    let t = walk(p, lon, lat, first, &mut no_easting, &mut no_northing)?;
+    let t = walk(p, lon, lat, first, &mut [], &mut [])?;
     let area = area_of(t, first);
     let points = t.points;
     if (points <= easting.len()) & (points <= northing.len()) & is_finite(area) {

@@ -1,4 +1,4 @@
-// What the points so far come to.
+// What the points so far come to. The buffers of both coordinates stand apart, as C lends them (`lenthuc_ring_area`).
 ghost use Rattle.std.specs.Prelude.{◌≡◌, ◌<◌, set};
 ghost use Rattle.ring.specs.Ring.{term};
 ghost use Rattle.ring.specs.Tally.{started, counted, tally_area};
@@ -13,7 +13,7 @@ pub(crate) struct Tally {
     pub last: Point,
 }
 
-// Where the list has such a place, it takes the value.
+// Where the list has such a place, it takes the value. `get_mut` is no shorter here, and its proof has to be written.
 fn store(list: &mut [f64], i: usize, x: f64)
     ensures { list.new ≡ set list.old i x }
 {

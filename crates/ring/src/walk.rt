@@ -1,4 +1,4 @@
-// Once round the ring: each corner's edge, then the next corner.
+// Once round the ring: each corner's edge, then the next corner. Lists and buffers stand apart, as C lends them (`lenthuc_ring_area`).
 ghost use Rattle.std.specs.Prelude.{◌≡◌, true, ◌<◌, ◌≤◌, length, drop, set};
 ghost use Rattle.ring.specs.Edge.{answered, easting_of, northing_of};
 ghost use Rattle.ring.specs.Ring.{corners};
