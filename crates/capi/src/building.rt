@@ -40,6 +40,7 @@ pub extern "C" fn lenthuc_build(kind: u8, settings: &[f64; 8], projection: &mut 
 
 // The same with an area of use: west, east, south, north.
 #[unsafe(no_mangle)]
+#[tactic(auto, unfolding(crate::specs::Building::build_in_area))]
 pub extern "C" fn lenthuc_build_in_area(
     kind: u8,
     settings: &[f64; 8],

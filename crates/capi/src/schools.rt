@@ -1,6 +1,8 @@
 // The nearest schools for a home.
 ghost use Rattle.std.specs.Prelude.{◌≡◌, length};
-ghost use Rattle.nearest.specs.Nearest.{nearest_number, nearest_list};
+ghost use Rattle.nearest.specs.Nearest.{nearest_check, nearest_number, nearest_list};
+
+use refusals::number;
 
 // The list takes the schools' positions in the input, the nearest first, of equally near ones the one with fewer pupils on roll, and keeps
 // what stood after them; a refusal leaves it alone.
@@ -14,7 +16,8 @@ pub extern "C" fn lenthuc_nearest(
     order: &mut [u16],
 ) -> u8
     ensures number { result ≡ nearest_number easting northing eastings.now northings.now rolls.now (length order.old) }
-    ensures order_after { order.new ≡ nearest_list result easting northing eastings.now northings.now rolls.now order.old }
+    ensures order_after { order.new ≡ nearest_list (nearest_check easting northing eastings.now northings.now rolls.now (length order.old)) easting northing eastings.now northings.now rolls.now order.old }
 {
-    nearest::nearest(easting, northing, eastings, northings, rolls, order)
+    let answer = nearest::nearest(easting, northing, eastings, northings, rolls, order);
+    number(answer)
 }
