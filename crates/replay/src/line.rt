@@ -1,47 +1,38 @@
 // The parts of a stored line.
 ghost use Rattle.std.specs.Prelude.{◌<◌, ◌≤◌};
 
-use crate::scan::find;
+use crate::scan::{after, before};
 use float::f64_of;
 use sheet::{field, read_hex};
 
-// The line without its comment, which starts at `#`, and without the blanks before that.
+// The line without its comment, which starts at `#`, and without the blanks before that. By an index, for the must-fail edit `before_the_line`.
 pub(crate) fn uncommented(line: &[u8]) -> &[u8] {
-    let mut end = find(line, 0, line.len(), b'#');
+    let text = before(line, b'#');
+    let mut end = text.len();
     while 0 < end {
-        if line[end - 1] != b' ' {
+        if text[end - 1] != b' ' {
             break;
         }
         end -= 1;
     }
-    &line[0..end]
+    &text[..end]
 }
 
 // What stands before the first blank.
 pub(crate) fn question(text: &[u8]) -> &[u8] {
-    let end = find(text, 0, text.len(), b' ');
-    &text[0..end]
+    before(text, b' ')
 }
 
 // All that stands after that blank.
 pub(crate) fn answer(text: &[u8]) -> &[u8] {
-    let end = find(text, 0, text.len(), b' ');
-    if end < text.len() {
-        return &text[end + 1..];
-    }
-    &text[end..]
+    after(text, b' ')
 }
 
 // Whether a text is so many fields of 16 digits, commas between.
 pub(crate) fn is_in_form(text: &[u8], fields: usize) -> bool
     requires { (0 < fields) × (fields ≤ 11) }
 {
-    for i in 0..fields {
-        if read_hex(field(text, i)).is_none() {
-            return false;
-        }
-    }
-    text.len() == 17 * fields - 1
+    (0..fields).all(|i| read_hex(field(text, i)).is_some()) && text.len() == 17 * fields - 1
 }
 
 // The bits of a field; 0 where it has another form.

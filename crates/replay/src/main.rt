@@ -25,7 +25,7 @@ ghost use Rattle.std.specs.Prelude.{◌≡◌, ◌+◌, ◌≤◌, length, IfOk}
 use line::{answer, question, uncommented};
 use question::{name, reply};
 use reply::is_said;
-use scan::find;
+use scan::before;
 use std::io;
 use std::io::Read;
 
@@ -69,8 +69,7 @@ fn line_at(input: &[u8], from: usize) -> &[u8]
     requires { from ≤ length input.now }
     ensures { from + length result.now ≤ length input.now }
 {
-    let end = find(input, from, input.len(), b'\n');
-    &input[from..end]
+    before(&input[from..], b'\n')
 }
 
 // Goes through the lines. The first of the present name stands at `first`.

@@ -23,7 +23,7 @@ use crate::line::question;
 use crate::on_map::{of_click, of_click_in_area};
 use crate::reply::{Reply, of_answer};
 use crate::rings::of_ring_line;
-use crate::scan::find;
+use crate::scan::{after, before};
 use crate::schools::of_schools;
 use float::f64_of;
 use sheet::{field, read_hex};
@@ -51,7 +51,7 @@ fn argument(question: &[u8], i: usize, count: usize) -> Option<f64> {
 
 // To a name and its arguments, each a comma and 16 digits.
 fn of_call(question: &[u8]) -> Option<Reply> {
-    let size = question.len() - find(question, 0, question.len(), b',');
+    let size = question.len() - before(question, b',').len();
     if size % 17 != 0 {
         return None;
     }
@@ -68,30 +68,21 @@ fn of_call(question: &[u8]) -> Option<Reply> {
     }
 }
 
-// What stands after the first comma.
-fn rest(question: &[u8]) -> &[u8] {
-    let comma = find(question, 0, question.len(), b',');
-    if comma < question.len() {
-        return &question[comma + 1..];
-    }
-    &question[comma..]
-}
-
 // Our reply; none where the question is not understood.
 pub(crate) fn reply(question: &[u8]) -> Option<Reply> {
     if is_value_line(question) {
         return Some(of_answer(sheet::answer(question)));
     }
     match field(question, 0) {
-        b"area" => of_area(rest(question), false),
-        b"handed" => of_area(rest(question), true),
-        b"ring" => of_ring_line(rest(question), false),
-        b"ring_in_area" => of_ring_line(rest(question), true),
-        b"nearest" => of_schools(rest(question)),
-        b"albers_inverse" => of_albers(rest(question)),
-        b"on_map" => of_click(rest(question)),
-        b"on_map_in_area" => of_click_in_area(rest(question)),
-        b"travel_charge" => of_charge(rest(question)),
+        b"area" => of_area(after(question, b','), false),
+        b"handed" => of_area(after(question, b','), true),
+        b"ring" => of_ring_line(after(question, b','), false),
+        b"ring_in_area" => of_ring_line(after(question, b','), true),
+        b"nearest" => of_schools(after(question, b',')),
+        b"albers_inverse" => of_albers(after(question, b',')),
+        b"on_map" => of_click(after(question, b',')),
+        b"on_map_in_area" => of_click_in_area(after(question, b',')),
+        b"travel_charge" => of_charge(after(question, b',')),
         _ => of_call(question),
     }
 }

@@ -1,19 +1,22 @@
 // Bytes found and written.
 ghost use Rattle.std.specs.Prelude.{◌≤◌, length};
 
-// The place of the first b in a part of a text; where the part has none, its end.
-pub(crate) fn find(text: &[u8], from: usize, to: usize, b: u8) -> usize
-    requires ordered { from ≤ to }
-    requires within { to ≤ length text.now }
-    ensures least { from ≤ result }
-    ensures most { result ≤ to }
+// What stands before the first b; where there is none, all of the text.
+pub(crate) fn before(text: &[u8], b: u8) -> &[u8]
+    ensures { length result.now ≤ length text.now }
 {
-    for i in from..to {
-        if text[i] == b {
-            return i;
-        }
+    match text.iter().position(|&c| c == b) {
+        Some(at) => &text[..at],
+        None => text,
     }
-    to
+}
+
+// What stands after the first b; where there is none, nothing.
+pub(crate) fn after(text: &[u8], b: u8) -> &[u8] {
+    match text.iter().position(|&c| c == b) {
+        Some(at) => &text[at + 1..],
+        None => &[],
+    }
 }
 
 // Puts a number's decimal digits at the start of a buffer, and gives how many there are.
