@@ -1,34 +1,22 @@
 -- What the midpoint of an edge says of the edge, and how many points an edge has.
 use Prim.Native.Nat.{ℕ, zero, suc, ◌+◌, ◌-◌, ◌^◌, ◌<◌, ◌≤◌}
 use mathlib.Core.Path.{◌≡◌, refl, ◌∙◌}
-use mathlib.Core.Bool.{Bool}
 use mathlib.Core.List.{[], ◌∷◌}
 use native.Mathlib.Omega.{arith}
 use native.Mathlib.Nat.{pow-suc}
 use native.Mathlib.Numerals.{sub-one}
 use lib.Pow.{pow_pos}
 use lib.ListN.{length, length-append}
+use Rattle.std.specs.Prelude.{Option, Some, None, Result, Ok, Err}
+use Rattle.refusals.specs.declared.Refusal.{Refusal}
 use Rattle.kinds.specs.declared.Projection.{Projection}
 use Rattle.ring.specs.declared.edge.Point.{Point}
-use Rattle.ring.specs.declared.edge.Projected.{Projected}
-use Rattle.ring.specs.declared.edge.Projected.TheVariants as projected
-use Rattle.ring.specs.declared.edge.Middle.{Middle}
-use Rattle.ring.specs.declared.edge.Middle.TheVariants.{Cut, Uncut, Refused}
-use Rattle.ring.specs.Edge.{Points, points, refused, points_of, place, halfway, uncut, cut_or_not, midpoint, join, split, edge}
+use Rattle.ring.specs.Edge.{Points, points_of, midpoint, join, split, edge}
 
-module _ (p : Projection) (a b : Point) (r : Projected) (e : r ≡ place p (halfway a.lon b.lon) (halfway a.lat b.lat)) where
-  pub midpoint_refused : (n : ℕ) → r ≡ projected.Refused n → Refused n ≡ midpoint p a b
-  unfolding midpoint
-  midpoint_refused n q = simp (← e, q)
-
-  pub midpoint_tested : (m : Point) (t : Bool) → r ≡ projected.At m → uncut a b m ≡ t → cut_or_not t m ≡ midpoint p a b
-  unfolding midpoint
-  midpoint_tested m t q h = simp (← e, q, h)
-
--- ---- the edge
+-- ---- the points at which it is cut
 
 module _ (p : Projection) (left : ℕ) (a b : Point) where
-  pub edge_none : left ≡ 0 → edge p left a b ≡ points []
+  pub edge_none : left ≡ 0 → edge p left a b ≡ Ok []
   unfolding edge
   edge_none e = rw e refl
 
@@ -37,32 +25,32 @@ unfolding edge
 edge_more p zero a b h = absurd (h refl)
 edge_more p (suc left) a b h = rw (sub-one (suc left)) refl
 
-module _ (p : Projection) (left : ℕ) (a b : Point) (r : Middle) (h : left ≡ 0 → ⊥) (e : r ≡ midpoint p a b) where
-  pub edge_refused : (k : ℕ) → r ≡ Refused k → edge p left a b ≡ refused k
+module _ (p : Projection) (left : ℕ) (a b : Point) (r : Result (Option Point) Refusal) (h : left ≡ 0 → ⊥) (e : r ≡ midpoint p a b) where
+  pub edge_refused : (k : Refusal) → r ≡ Err k → edge p left a b ≡ Err k
   unfolding split
   edge_refused k q = edge_more p left a b h ∙ rw (← e, q) refl
 
-  pub edge_uncut : r ≡ Uncut → edge p left a b ≡ points []
+  pub edge_uncut : r ≡ Ok None → edge p left a b ≡ Ok []
   unfolding split
   edge_uncut q = edge_more p left a b h ∙ rw (← e, q) refl
 
-  pub edge_cut : (m : Point) → r ≡ Cut m → edge p left a b ≡ join (edge p (left - 1) a m) m (edge p (left - 1) m b)
+  pub edge_cut : (m : Point) → r ≡ Ok (Some m) → edge p left a b ≡ join (edge p (left - 1) a m) m (edge p (left - 1) m b)
   unfolding split
   edge_cut m q = edge_more p left a b h ∙ rw (← e, q) refl
 
 -- ---- how many points
 
-split_few : (n : ℕ) (f g : Point → Points) (r : Middle) → ((m : Point) → length (points_of (f m)) < n) → ((m : Point) → length (points_of (g m)) < n) → 0 < n
+split_few : (n : ℕ) (f g : Point → Points) (r : Result (Option Point) Refusal) → ((m : Point) → length (points_of (f m)) < n) → ((m : Point) → length (points_of (g m)) < n) → 0 < n
     → length (points_of (split f g r)) < n + n
 unfolding split join
-split_few n f g (Refused k) hf hg h = omega arith
-split_few n f g Uncut hf hg h = omega arith
-split_few n f g (Cut m) hf hg h = go (f m) (g m) (hf m) (hg m)
+split_few n f g (Err k) hf hg h = omega arith
+split_few n f g (Ok None) hf hg h = omega arith
+split_few n f g (Ok (Some m)) hf hg h = go (f m) (g m) (hf m) (hg m)
   where
     go : (p q : Points) → length (points_of p) < n → length (points_of q) < n → length (points_of (join p m q)) < n + n
-    go (refused k) q hp hq = omega arith
-    go (points l) (refused k) hp hq = omega arith
-    go (points l) (points r) hp hq = omega (arith, length-append l (m ∷ r))
+    go (Err k) q hp hq = omega arith
+    go (Ok l) (Err k) hp hq = omega arith
+    go (Ok l) (Ok r) hp hq = omega (arith, length-append l (m ∷ r))
 
 -- an edge with so many cuts left has fewer points than 2 to that power
 pub edge_few : (p : Projection) (left : ℕ) (a b : Point) → length (points_of (edge p left a b)) < 2 ^ left

@@ -8,4 +8,3 @@ pub mod HowMany
 pub mod CornersAmong
 pub mod Buffers
 pub mod NumbersInOrder
-pub mod NeverZero

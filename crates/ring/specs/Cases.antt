@@ -1,15 +1,17 @@
 -- What document 02 and its readings say of a ring, at the edges: a theorem by computation for each case. f is 0, and settings that a case does not name are 0.
-use Rattle.std.specs.Prelude.{ℕ, ◌*◌, ◌^◌, ◌≡◌, refl, [], ◌∷◌, Float}
+use Rattle.std.specs.Prelude.{ℕ, ◌*◌, ◌^◌, ◌≡◌, refl, [], ◌∷◌, Float, Result}
 use Rattle.std.specs.Float.{nan}
 use Rattle.std.specs.Float.Ieee.{neg}
 use Rattle.float.specs.Operators.{f64}
 use Rattle.float.specs.Constants.{+0, one, two, three, half, PI, ratio}
+use Rattle.refusals.specs.Refusals.{number}
+use Rattle.refusals.specs.declared.Refusal.{Refusal}
 use Rattle.letters.specs.declared.Kind.TheVariants.{S, C}
-use Rattle.letters.specs.declared.Settings.{Settings}
+use Rattle.projection.specs.declared.Settings.{Settings}
 use Rattle.kinds.specs.Kinds.{build, build_in_area}
 use Rattle.kinds.specs.declared.Projection.{Projection}
 use Rattle.ring.specs.Ring.{ring_area}
-use Rattle.ring.specs.Results.{number, points}
+use Rattle.ring.specs.Results.{points}
 use Rattle.ring.specs.Opened.{opened}
 use Rattle.ring.specs.declared.RingArea.{RingArea}
 
@@ -18,7 +20,7 @@ pub record Outcome : Type 0 where
   pub number : ℕ
   pub points : ℕ
 
-abbrev outcome : RingArea → Outcome
+abbrev outcome : Result RingArea Refusal → Outcome
 outcome r = record { number = number r; points = points r }
 
 abbrev answered : ℕ → Outcome

@@ -1,6 +1,5 @@
 -- Which points the corners are, and that they stand among others.
-use Rattle.std.specs.Prelude.{◌≡◌, ◌⊎◌, List, [], ◌∷◌, Float}
-use Rattle.projection.specs.declared.Answer.TheVariants.{Pair}
+use Rattle.std.specs.Prelude.{◌≡◌, ◌⊎◌, List, [], ◌∷◌, Float, Ok}
 use Rattle.kinds.specs.Kinds.{forward}
 use Rattle.kinds.specs.declared.Projection.{Projection}
 use Rattle.ring.specs.declared.edge.Point.{Point}
@@ -12,7 +11,7 @@ AtCorners p [] [] (a ∷ l) = ⊥
 AtCorners p [] (y ∷ lat) l = ⊥
 AtCorners p (x ∷ lon) [] l = ⊥
 AtCorners p (x ∷ lon) (y ∷ lat) [] = ⊥
-AtCorners p (x ∷ lon) (y ∷ lat) (a ∷ l) = (a.lon ≡ x) × (a.lat ≡ y) × (forward p x y ≡ Pair a.easting a.northing) × AtCorners p lon lat l
+AtCorners p (x ∷ lon) (y ∷ lat) (a ∷ l) = (a.lon ≡ x) × (a.lat ≡ y) × (forward p x y ≡ Ok (a.easting, a.northing)) × AtCorners p lon lat l
 
 -- each point of the first list stands in the second, in the same order
 abbrev pub InOrder : List Point → List Point → Type 0

@@ -1,17 +1,15 @@
 -- What the code keeps of the points while it goes round. The ring's own definitions do not speak of it.
-use Rattle.std.specs.Prelude.{ℕ, ◌+◌, ◌≡◌, true, List, [], ◌∷◌, map, drop, Float}
+use Rattle.std.specs.Prelude.{ℕ, ◌+◌, ◌≡◌, true, List, [], ◌∷◌, map, drop, Float, Result, Ok, Err}
 use Rattle.std.proofs.lemmas.List.Edits.{sets}
 use Rattle.float.specs.Operators.{◌⊕◌, ◌⊗◌}
 use Rattle.float.specs.Constants.{+0, half}
 use Rattle.kinds.specs.declared.Projection.{Projection}
-use Rattle.ring.specs.Edge.{Points, points, refused, answered, points_of}
+use Rattle.refusals.specs.declared.Refusal.{Refusal}
+use Rattle.refusals.specs.declared.Refusal.TheVariants.{RingForm}
+use Rattle.ring.specs.Edge.{Points, answered, points_of}
 use Rattle.ring.specs.Ring.{term, around, corners}
 use Rattle.ring.specs.declared.edge.Point.{Point}
-use Rattle.ring.specs.declared.edge.Projected.{Projected}
-use Rattle.ring.specs.declared.edge.Projected.TheVariants as projected
 use Rattle.ring.specs.declared.tally.Tally.{Tally}
-use Rattle.ring.specs.declared.walk.Walked.{Walked}
-use Rattle.ring.specs.declared.walk.Walked.TheVariants.{Done, Stopped}
 
 unfoldable pub started : Point → Tally
 started first = record { points = 1; sum = +0; last = first }
@@ -28,20 +26,20 @@ unfolding counted
 counted_all t [] = t
 counted_all t (m ∷ l) = counted_all (counted t m) l
 
-unfoldable pub walked : Tally → Points → Walked
+unfoldable pub walked : Tally → Points → Result Tally Refusal
 unfolding counted_all
-walked t (points l) = Done (counted_all t l)
-walked t (refused k) = Stopped k
+walked t (Ok l) = Ok (counted_all t l)
+walked t (Err k) = Err k
 
 -- what follows the first corner, by the lists of both coordinates
 abbrev pub rest : Projection → Point → List Float → List Float → Points
 rest p first lon lat = around p first first (points_of (corners p (drop 1 lon) (drop 1 lat)))
 
--- the first corner, or the first refusal among the corners
-unfoldable pub first_of : Points → Projected
-first_of (refused k) = projected.Refused k
-first_of (points []) = projected.Refused 0
-first_of (points (a ∷ l)) = projected.At a
+-- the first corner, or the first refusal among the corners; no corners make no ring
+unfoldable pub first_of : Points → Result Point Refusal
+first_of (Err k) = Err k
+first_of (Ok []) = Err RingForm
+first_of (Ok (a ∷ l)) = Ok a
 
 -- where the points are answered, a coordinate of each stands in the buffer from a place on
 abbrev pub Laid : (Point → Float) → List Float → ℕ → Points → List Float → Type 0

@@ -3,7 +3,7 @@ ghost use Rattle.std.specs.Prelude.{◌≡◌};
 ghost use Rattle.ring.specs.Edge.{halfway, place, uncut, midpoint};
 
 use kinds::Projection;
-use projection::Answer;
+use refusals::Refusal;
 use root::distance;
 
 // A place, and where the projection puts it.
@@ -15,36 +15,20 @@ pub(crate) struct Point {
     pub northing: f64,
 }
 
-#[derive(Clone, Copy)]
-pub(crate) enum Projected {
-    At(Point),
-    Refused(u8),
-}
-
-// What the midpoint of an edge says: the edge is cut there, or left uncut, or the midpoint is refused.
-#[derive(Clone, Copy)]
-pub(crate) enum Middle {
-    Cut(Point),
-    Uncut,
-    Refused(u8),
-}
-
-pub(crate) fn place(p: Projection, lon: f64, lat: f64) -> Projected
+#[tactic(auto, unfolding(crate::specs::Edge::place))]
+pub(crate) fn place(p: Projection, lon: f64, lat: f64) -> Result<Point, Refusal>
     ensures { result ≡ place p lon lat }
 {
-    match p.forward(lon, lat) {
-        Answer::Pair(easting, northing) => {
-            Projected::At(Point {
-                lon,
-                lat,
-                easting,
-                northing,
-            })
-        }
-        Answer::Refused(n) => Projected::Refused(n),
-    }
+    let (easting, northing) = p.forward(lon, lat)?;
+    Ok(Point {
+        lon,
+        lat,
+        easting,
+        northing,
+    })
 }
 
+#[tactic(auto, unfolding(crate::specs::Edge::halfway))]
 fn halfway(x: f64, y: f64) -> f64
     ensures { result ≡ halfway x y }
 {
@@ -52,6 +36,7 @@ fn halfway(x: f64, y: f64) -> f64
 }
 
 // Whether the projected midpoint is at most half a metre from the midpoint of the projected ends.
+#[tactic(auto, unfolding(crate::specs::Edge::uncut))]
 fn uncut(a: Point, b: Point, m: Point) -> bool
     ensures { result ≡ uncut a b m }
 {
@@ -60,19 +45,17 @@ fn uncut(a: Point, b: Point, m: Point) -> bool
     distance(dx, dy) <= 0.5
 }
 
-pub(crate) fn midpoint(p: Projection, a: Point, b: Point) -> Middle
+// The midpoint of an edge that is cut there; none of one that is left uncut.
+#[tactic(auto, unfolding(crate::specs::Edge::midpoint))]
+pub(crate) fn midpoint(p: Projection, a: Point, b: Point) -> Result<Option<Point>, Refusal>
     ensures { result ≡ midpoint p a b }
 {
     let lon = halfway(a.lon, b.lon);
     let lat = halfway(a.lat, b.lat);
-    match place(p, lon, lat) {
-        Projected::At(m) => {
-            if uncut(a, b, m) {
-                Middle::Uncut
-            } else {
-                Middle::Cut(m)
-            }
-        }
-        Projected::Refused(n) => Middle::Refused(n),
+    let m = place(p, lon, lat)?;
+    if uncut(a, b, m) {
+        Ok(None)
+    } else {
+        Ok(Some(m))
     }
 }

@@ -14,20 +14,18 @@ ghost use Rattle.ring.specs.Stored.{stored};
 ghost use Rattle.ring.specs.Edge.{easting_of, northing_of};
 
 use corners::first_corner;
-use edge::{Point, Projected};
 use float::is_finite;
-use kinds::{Built, Projection, built_number};
-use projection::or_else;
-use refusals::{RING_FORM, RING_RESULT};
-pub use results::{ring_number, ring_points, ring_square};
-use tally::{Tally, area_of};
-use walk::{Walked, walk};
+use kinds::{Built, Projection};
+use refusals::Refusal;
+pub use results::area_and_points;
+use tally::area_of;
+use walk::walk;
 
-// What a ring has: its area and the number of its points; or the number of its refusal.
+// The area of a ring, and the number of its points.
 #[derive(Clone, Copy)]
-pub enum RingArea {
-    Measured(f64, usize),
-    Refused(u8),
+pub struct RingArea {
+    pub area: f64,
+    pub points: usize,
 }
 
 // Fewer corners than this make no ring, and more than that are too many.
@@ -35,31 +33,26 @@ const FEWEST: usize = 3;
 
 const MOST: usize = 4096;
 
-fn keeps_areas(built: Built) -> bool
+#[tactic(auto, unfolding(crate::specs::Ring::keeps_areas))]
+fn keeps_areas(built: Result<Built, Refusal>) -> bool
     ensures { result ≡ keeps_areas built }
 {
-    match built {
-        Built::Lambert(_) => true,
-        Built::Albers(_) => true,
-        Built::Equal(_) => true,
-        Built::Cassini(_) => false,
-        Built::Polyconic(_) => false,
-        Built::Guam(_) => false,
-        Built::Refused(_) => false,
-    }
+    matches!(
+        built,
+        Ok(Built::Lambert(_) | Built::Albers(_) | Built::Equal(_))
+    )
 }
 
-// The number of a projection that was refused, or 27, or 0.
-fn ring_fault(p: Projection, lons: usize, lats: usize) -> u8
+// A projection that was refused by its own number, before 27.
+#[tactic(auto, unfolding(crate::specs::Ring::ring_fault))]
+fn ring_fault(p: Projection, lons: usize, lats: usize) -> Result<(), Refusal>
     ensures { result ≡ ring_fault p lons lats }
 {
-    let built = p.built;
-    let number = built_number(p);
-    let good = keeps_areas(built) & (lats == lons) & (FEWEST <= lons) & (lons <= MOST);
-    if good {
-        number
+    p.built?;
+    if keeps_areas(p.built) & (lats == lons) & (FEWEST <= lons) & (lons <= MOST) {
+        Ok(())
     } else {
-        or_else(number, RING_FORM)
+        Err(Refusal::RingForm)
     }
 }
 
@@ -71,37 +64,22 @@ pub fn ring_area(
     lat: &[f64],
     easting: &mut [f64],
     northing: &mut [f64],
-) -> RingArea
+) -> Result<RingArea, Refusal>
     ensures value { result ≡ ring_area p lon.now lat.now (length easting.old) (length northing.old) }
     ensures easting_after { easting.new ≡ stored easting_of result (ring p lon.now lat.now) easting.old }
     ensures northing_after { northing.new ≡ stored northing_of result (ring p lon.now lat.now) northing.old }
 {
-    let fault = ring_fault(p, lon.len(), lat.len());
-    if fault == 0 {
-        match first_corner(p, lon, lat) {
-            Projected::Refused(k) => RingArea::Refused(k),
-            Projected::At(first) => {
-                let mut no_easting = [0.0; 0];
-                let mut no_northing = [0.0; 0];
-                match walk(p, lon, lat, first, &mut no_easting, &mut no_northing) {
-                    Walked::Stopped(k) => RingArea::Refused(k),
-                    Walked::Done(t) => {
-                        let area = area_of(t, first);
-                        let points = t.points;
-                        if (points <= easting.len())
-                            & (points <= northing.len())
-                            & is_finite(area)
-                        {
-                            walk(p, lon, lat, first, easting, northing);
-                            RingArea::Measured(area, points)
-                        } else {
-                            RingArea::Refused(RING_RESULT)
-                        }
-                    }
-                }
-            }
-        }
+    ring_fault(p, lon.len(), lat.len())?;
+    let first = first_corner(p, lon, lat)?;
+    let mut no_easting = [0.0; 0];
+    let mut no_northing = [0.0; 0];
+    let t = walk(p, lon, lat, first, &mut no_easting, &mut no_northing)?;
+    let area = area_of(t, first);
+    let points = t.points;
+    if (points <= easting.len()) & (points <= northing.len()) & is_finite(area) {
+        walk(p, lon, lat, first, easting, northing)?;
+        Ok(RingArea { area, points })
     } else {
-        RingArea::Refused(fault)
+        Err(Refusal::RingResult)
     }
 }

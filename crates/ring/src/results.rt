@@ -1,32 +1,12 @@
-// What documents 01 and 02 say of an answer: its number, the area and the number of points; of a refusal the last two are +0 and 0.
+// What documents 01 and 02 say of an answer: the area and the number of points, +0 and 0 where it is refused.
 ghost use Rattle.std.specs.Prelude.{◌≡◌};
-ghost use Rattle.ring.specs.Results.{number, square, points};
+ghost use Rattle.ring.specs.Results.{square, points};
 
 use crate::RingArea;
+use refusals::Refusal;
 
-pub fn ring_number(r: RingArea) -> u8
-    ensures { result ≡ number r }
+pub fn area_and_points(answer: Result<RingArea, Refusal>) -> (f64, usize)
+    ensures { result ≡ (square answer, points answer) }
 {
-    match r {
-        RingArea::Measured(_, _) => 0,
-        RingArea::Refused(n) => n,
-    }
-}
-
-pub fn ring_square(r: RingArea) -> f64
-    ensures { result ≡ square r }
-{
-    match r {
-        RingArea::Measured(area, _) => area,
-        RingArea::Refused(_) => 0.0,
-    }
-}
-
-pub fn ring_points(r: RingArea) -> usize
-    ensures { result ≡ points r }
-{
-    match r {
-        RingArea::Measured(_, points) => points,
-        RingArea::Refused(_) => 0,
-    }
+    answer.map_or((0.0, 0), |ring| (ring.area, ring.points))
 }

@@ -30,6 +30,7 @@ fn term(a: Point, next: Point) -> f64
 }
 
 // The first point. It is stored where there is a place for it.
+#[tactic(auto, unfolding(crate::specs::Tally::started))]
 pub(crate) fn start(first: Point, easting: &mut [f64], northing: &mut [f64]) -> Tally
     ensures value { result ≡ started first }
     ensures easting_after { easting.new ≡ set easting.old 0 first.easting }
@@ -45,6 +46,7 @@ pub(crate) fn start(first: Point, easting: &mut [f64], northing: &mut [f64]) -> 
 }
 
 // One point more. It is stored where there is a place for it. No ring comes near 2^24 points: the bound keeps their number from overflowing.
+#[tactic(auto, unfolding(crate::specs::Tally::counted))]
 pub(crate) fn count(t: Tally, m: Point, easting: &mut [f64], northing: &mut [f64]) -> Tally
     requires { t.points < 16777216 }
     ensures value { result ≡ counted t m }
@@ -62,6 +64,7 @@ pub(crate) fn count(t: Tally, m: Point, easting: &mut [f64], northing: &mut [f64
 }
 
 // Half the sum, with the term from the last point to the first.
+#[tactic(auto, unfolding(crate::specs::Tally::tally_area))]
 pub(crate) fn area_of(t: Tally, first: Point) -> f64
     ensures { result ≡ tally_area t first }
 {

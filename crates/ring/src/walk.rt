@@ -5,21 +5,15 @@ ghost use Rattle.ring.specs.Ring.{corners};
 ghost use Rattle.ring.specs.Tally.{walked, started, rest, Laid};
 
 use crate::cut::cut;
-use crate::edge::{Point, Projected, place};
+use crate::edge::{Point, place};
 use crate::tally::{Tally, count, start};
 use kinds::Projection;
+use refusals::Refusal;
 
 // An edge is cut at most so many times over.
 const DEPTH: usize = 10;
 
-// What a way comes to: a tally of its points, or the first refusal among them.
-#[derive(Clone, Copy)]
-pub(crate) enum Walked {
-    Done(Tally),
-    Stopped(u8),
-}
-
-// From the first corner round to it again, where the corners are answered.
+// From the first corner round to it again, where the corners are answered: a tally of the points, or the first refusal among them.
 pub(crate) fn walk(
     p: Projection,
     lon: &[f64],
@@ -27,7 +21,7 @@ pub(crate) fn walk(
     first: Point,
     easting: &mut [f64],
     northing: &mut [f64],
-) -> Walked
+) -> Result<Tally, Refusal>
     requires sizes { (0 < length lon.now) × (length lon.now ≤ 4096) × (length lat.now ≡ length lon.now) }
     requires corners_answered { answered (corners p (drop 1 lon.now) (drop 1 lat.now)) ≡ true }
     ensures value { result ≡ walked (started first) (rest p first lon.now lat.now) }
@@ -36,23 +30,11 @@ pub(crate) fn walk(
 {
     let mut a = first;
     let mut t = start(first, easting, northing);
-    let mut i = 1;
-    while i < lon.len() {
-        match place(p, lon[i], lat[i]) {
-            Projected::Refused(k) => {
-                return Walked::Stopped(k);
-            }
-            Projected::At(b) => match cut(p, a, b, DEPTH, t, easting, northing) {
-                Walked::Stopped(k) => {
-                    return Walked::Stopped(k);
-                }
-                Walked::Done(u) => {
-                    t = count(u, b, easting, northing);
-                    a = b;
-                }
-            },
-        }
-        i += 1;
+    for (&x, &y) in lon[1..].iter().zip(&lat[1..]) {
+        let b = place(p, x, y)?;
+        let u = cut(p, a, b, DEPTH, t, easting, northing)?;
+        t = count(u, b, easting, northing);
+        a = b;
     }
     cut(p, a, first, DEPTH, t, easting, northing)
 }
