@@ -22,7 +22,8 @@ pub extern "C" fn lenthuc_travel_charge(
 {
     let answer = charge::travel_charge(dx, dy, rate, children);
     let bill = bill_of(answer);
+    let shared = bill.shares;
     *charge = bill.charge;
-    *shares = bill.shares;
+    *shares = shared;
     number(answer)
 }

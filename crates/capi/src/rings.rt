@@ -7,7 +7,8 @@ ghost use Rattle.packing.specs.Packing.{unpacked};
 ghost use Rattle.capi.specs.Answers.{SaysArea};
 
 use packing::unpacked;
-use ring::{ring_number, ring_points, ring_square};
+use refusals::number;
+use ring::area_and_points;
 
 // The area is +0 and the number of points 0 of a refusal. Both buffers take the points, and keep what stood after them; a refusal
 // leaves them alone.
@@ -26,7 +27,6 @@ pub extern "C" fn lenthuc_ring_area(
     ensures northing_after { northing.new ≡ stored northing_of (ring_area (unpacked projection.now) lon.now lat.now (length easting.old) (length northing.old)) (ring (unpacked projection.now) lon.now lat.now) northing.old }
 {
     let answer = ring::ring_area(unpacked(projection), lon, lat, easting, northing);
-    *area = ring_square(answer);
-    *points = ring_points(answer);
-    ring_number(answer)
+    (*area, *points) = area_and_points(answer);
+    number(answer)
 }
