@@ -10,7 +10,7 @@ use packing::packed;
 use projection::{Area, Settings};
 use refusals::{Refusal, number};
 
-// The settings stand in the order of the sheet: a, f, lon0, lat0, lat1, lat2, false easting, false northing.
+// The settings stand in the order of the sheet: a, f, lon0, lat0, lat1, lat2, false easting, false northing. No `From`: both types are other crates'.
 #[tactic(auto, unfolding(crate::specs::Building::build, letters::specs::Letters::kind_from))]
 fn build(kind: u8, s: &[f64; 8]) -> Projection
     ensures { result ≡ build kind s.now }

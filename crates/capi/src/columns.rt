@@ -1,4 +1,4 @@
-// A column of points by one projection.
+// A column of points by one projection. The columns come one by one, and each way is a function of its own, as C has them.
 ghost use Rattle.std.specs.Prelude.{◌≡◌, map, length};
 ghost use Rattle.refusals.specs.Refusals.{number};
 ghost use Rattle.projection.specs.Results.{first_result, second_result};

@@ -1,4 +1,4 @@
-// The area of a catchment ring by a projection that was built before, or by whatever numbers are handed in.
+// The area of a catchment ring by a projection that was built before, or by whatever numbers are handed in. The lists come one by one, as C has them.
 ghost use Rattle.std.specs.Prelude.{◌≡◌, length};
 ghost use Rattle.ring.specs.Edge.{easting_of, northing_of};
 ghost use Rattle.ring.specs.Ring.{ring, ring_area};
