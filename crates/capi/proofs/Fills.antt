@@ -7,8 +7,9 @@ use native.Mathlib.Numerals.{add-one}
 use lib.ListN.{length, get_or, drop, set, length-set, length-map, drop_of_length-le}
 use lib.Seq.{drop-cons, sets, sets-eq}
 use lib.Ieee.{Float}
-use Rattle.projection.specs.declared.Answer.{Answer}
-use Rattle.projection.specs.Results.{number, first_result, second_result}
+use Rattle.projection.specs.Answer.{Answer}
+use Rattle.refusals.specs.Refusals.{number}
+use Rattle.projection.specs.Results.{first_result, second_result}
 use Rattle.capi.specs.Columns.{each}
 
 module _ {A : Type 0} (part : Answer → A) (call : Float → Float → Answer) (us vs : List Float) (l : List A) (i : ℕ) where
@@ -60,17 +61,17 @@ module _ (call : Float → Float → Answer) (us vs ps qs : List Float) (ns : Li
       }
 
   module _ (i : ℕ) (r : Filling call us vs ps qs ns i) where
-    pub goes_on : (d : Float) (x y : Float) (n : ℕ) (a : Answer) → i < length us → a ≡ call (get_or us i d) (get_or vs i d)
-        → x ≡ first_result a → y ≡ second_result a → n ≡ number a → Filling call us vs (set ps i x) (set qs i y) (set ns i n) (i + 1)
-    goes_on d x y n a h e f g k =
+    pub goes_on : (d : Float) (both : Float × Float) (n : ℕ) (a : Answer) → i < length us → a ≡ call (get_or us i d) (get_or vs i d)
+        → both ≡ (first_result a, second_result a) → n ≡ number a → Filling call us vs (set ps i both.0) (set qs i both.1) (set ns i n) (i + 1)
+    goes_on d both n a h e f k =
         let m : i < length vs = omega (arith, r.v_long) in
         record {
           v_long = r.v_long;
-          p_long = length-set ps i x ∙ r.p_long;
-          q_long = length-set qs i y ∙ r.q_long;
+          p_long = length-set ps i both.0 ∙ r.p_long;
+          q_long = length-set qs i both.1 ∙ r.q_long;
           n_long = length-set ns i n ∙ r.n_long;
           firsts = rw (f, e) (sym (one_filled first_result call us vs ps i d h m) ∙ r.firsts);
-          seconds = rw (g, e) (sym (one_filled second_result call us vs qs i d h m) ∙ r.seconds);
+          seconds = rw (f, e) (sym (one_filled second_result call us vs qs i d h m) ∙ r.seconds);
           numbers = rw (k, e) (sym (one_filled number call us vs ns i d h m) ∙ r.numbers);
         }
 

@@ -7,8 +7,9 @@ use borrow.Author.Tests.{eqb-true}
 use lib.Dec.{eqb}
 use lib.ListN.{length}
 use lib.Ieee.{Float}
-use Rattle.projection.specs.declared.Answer.{Answer}
-use Rattle.projection.specs.Results.{number, first_result, second_result}
+use Rattle.projection.specs.Answer.{Answer}
+use Rattle.refusals.specs.Refusals.{number}
+use Rattle.projection.specs.Results.{first_result, second_result}
 use Rattle.capi.specs.Columns.{each, equal_lengths, Column}
 
 module _ (us vs ps qs : List Float) (ns : List ℕ) where

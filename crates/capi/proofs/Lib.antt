@@ -1,4 +1,3 @@
 mod Fills
 mod Lengths
 mod Maps
-pub mod NeverZero

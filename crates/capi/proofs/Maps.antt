@@ -6,7 +6,7 @@ use native.Mathlib.Numerals.{add-one}
 use lib.ListN.{length, get_or, drop, drop_of_length-le}
 use lib.Seq.{drop-cons}
 use lib.Ieee.{Float}
-use Rattle.projection.specs.declared.Answer.{Answer}
+use Rattle.projection.specs.Answer.{Answer}
 use Rattle.projection.specs.declared.Frame.{Frame}
 use Rattle.letters.specs.declared.Way.{Way}
 use Rattle.kinds.specs.Kinds.{answer_in}

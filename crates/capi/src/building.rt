@@ -10,7 +10,8 @@ use packing::packed;
 use projection::{Area, Settings};
 use refusals::{Refusal, number};
 
-// The settings stand in the order of the sheet: a, f, lon0, lat0, lat1, lat2, false easting, false northing.
+// The settings stand in the order of the sheet: a, f, lon0, lat0, lat1, lat2, false easting, false northing. No `From`: both types are other crates'.
+#[tactic(auto, unfolding(crate::specs::Building::build, letters::specs::Letters::kind_from))]
 fn build(kind: u8, s: &[f64; 8]) -> Projection
     ensures { result ≡ build kind s.now }
 {
@@ -40,6 +41,7 @@ pub extern "C" fn lenthuc_build(kind: u8, settings: &[f64; 8], projection: &mut 
 
 // The same with an area of use: west, east, south, north.
 #[unsafe(no_mangle)]
+#[tactic(auto, unfolding(crate::specs::Building::build_in_area))]
 pub extern "C" fn lenthuc_build_in_area(
     kind: u8,
     settings: &[f64; 8],

@@ -1,4 +1,4 @@
-// A column of points by one projection.
+// A column of points by one projection. The columns come one by one, and each way is a function of its own, as C has them.
 ghost use Rattle.std.specs.Prelude.{◌≡◌, map, length};
 ghost use Rattle.refusals.specs.Refusals.{number};
 ghost use Rattle.projection.specs.Results.{first_result, second_result};
@@ -28,12 +28,11 @@ fn fill(
     requires { (length v.now ≡ length u.now) × (length p.old ≡ length u.now) × (length q.old ≡ length u.now) × (length numbers.old ≡ length u.now) }
     ensures { (p.new ≡ map first_result (each (answer_in frame way projection) u.now v.now)) × (q.new ≡ map second_result (each (answer_in frame way projection) u.now v.now)) × (numbers.new ≡ map number (each (answer_in frame way projection) u.now v.now)) × ColumnOnTheMap frame way projection u.now v.now }
 {
-    let mut i = 0;
-    while i < u.len() {
+    // By an index: zips of five columns would be nested four deep.
+    for i in 0..u.len() {
         let answer = answer_in(frame, way, projection, u[i], v[i]);
         (p[i], q[i]) = both_results(answer);
         numbers[i] = number(answer);
-        i += 1;
     }
 }
 

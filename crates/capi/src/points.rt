@@ -1,4 +1,4 @@
-// One point by a projection that was built before, or by whatever numbers are handed in.
+// One point by a projection that was built before, or by whatever numbers are handed in. Each way is a function of its own, as C calls it.
 ghost use Rattle.projection.specs.InArea.{InArea};
 ghost use Rattle.projection.specs.OnTheMap.{OnTheMap};
 ghost use Rattle.kinds.specs.Kinds.{forward, formula, inverse};

@@ -1,4 +1,4 @@
-// The area of a catchment ring by a projection that was built before, or by whatever numbers are handed in.
+// The area of a catchment ring by a projection that was built before, or by whatever numbers are handed in. The lists come one by one, as C has them.
 ghost use Rattle.std.specs.Prelude.{◌≡◌, length};
 ghost use Rattle.ring.specs.Edge.{easting_of, northing_of};
 ghost use Rattle.ring.specs.Ring.{ring, ring_area};
@@ -7,7 +7,8 @@ ghost use Rattle.packing.specs.Packing.{unpacked};
 ghost use Rattle.capi.specs.Answers.{SaysArea};
 
 use packing::unpacked;
-use ring::{ring_number, ring_points, ring_square};
+use refusals::number;
+use ring::area_and_points;
 
 // The area is +0 and the number of points 0 of a refusal. Both buffers take the points, and keep what stood after them; a refusal
 // leaves them alone.
@@ -26,7 +27,6 @@ pub extern "C" fn lenthuc_ring_area(
     ensures northing_after { northing.new ≡ stored northing_of (ring_area (unpacked projection.now) lon.now lat.now (length easting.old) (length northing.old)) (ring (unpacked projection.now) lon.now lat.now) northing.old }
 {
     let answer = ring::ring_area(unpacked(projection), lon, lat, easting, northing);
-    *area = ring_square(answer);
-    *points = ring_points(answer);
-    ring_number(answer)
+    (*area, *points) = area_and_points(answer);
+    number(answer)
 }

@@ -1,8 +1,7 @@
 // The nearest schools for a home.
 ghost use Rattle.std.specs.Prelude.{◌≡◌, length};
-ghost use Rattle.nearest.specs.Nearest.{nearest_number, nearest_check, nearest_list};
+ghost use Rattle.nearest.specs.Nearest.{nearest_check, nearest_number, nearest_list};
 
-use nearest::nearest;
 use refusals::number;
 
 // The list takes the schools' positions in the input, the nearest first, of equally near ones the one with fewer pupils on roll, and keeps
@@ -19,6 +18,6 @@ pub extern "C" fn lenthuc_nearest(
     ensures number { result ≡ nearest_number easting northing eastings.now northings.now rolls.now (length order.old) }
     ensures order_after { order.new ≡ nearest_list (nearest_check easting northing eastings.now northings.now rolls.now (length order.old)) easting northing eastings.now northings.now rolls.now order.old }
 {
-    let answer = nearest(easting, northing, eastings, northings, rolls, order);
+    let answer = nearest::nearest(easting, northing, eastings, northings, rolls, order);
     number(answer)
 }

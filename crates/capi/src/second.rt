@@ -1,4 +1,5 @@
 // The second inverse, which refuses a click in the map's frame. Each function gives whether the projection has one; where it has none nothing is written.
+// That is a bool, with the results lent beside it: C has no Option.
 ghost use Rattle.std.specs.Prelude.{◌≡◌, true};
 ghost use Rattle.projection.specs.declared.Frame.TheVariants.{Refused};
 ghost use Rattle.letters.specs.declared.Way.TheVariants.{Inverse};

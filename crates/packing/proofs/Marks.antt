@@ -40,6 +40,8 @@ pub guam_marked : (l : List Float) → at l 0 ≡ f64 327 → built_of l ≡ Ok 
 unfolding built_of marked to_bits of_bits
 guam_marked l h = rw h refl
 
+pub ruleset marked_kinds = (lambert_marked, albers_marked, equal_earth_marked, cassini_marked, polyconic_marked, guam_marked)
+
 -- a small number is the pattern of its f64
 small_pattern : (n : ℕ) → n < 256 → to_bits binary64 (f64 n) ≡ n
 small_pattern n h = to_bits-of_bits binary64 n (omega arith) (subst (λ (b : Bool). T (not b)) (sym nan_free) tt)

@@ -4,7 +4,7 @@ use mathlib.Core.Path.{◌≡◌, refl, sym, ◌∙◌, ap}
 use mathlib.Core.Bool.{Bool, true, false, cond}
 use mathlib.Core.List.{List, ◌++◌, append-nil}
 use native.Mathlib.Omega.{arith}
-use lib.ListN.{length, replicate, drop, drop_of_length-le}
+use lib.ListN.{length, replicate, take, drop, drop_of_length-le}
 use borrow.Rule.Slice.PartMut.{put_mid}
 use lib.Seq.{drop-cons}
 use lib.Ieee.{Float, nan, eq, of_bits}
@@ -28,6 +28,11 @@ rest_read l (suc n) i e =
 -- all of them, from the first on
 all_read : (l : List Float) (n : ℕ) → length l ≡ n → from l 0 n ≡ l
 all_read l n e = rest_read l n 0 (omega arith)
+
+-- the meridian numbers, read at once
+pub en_read : (l : List Float) → length l ≡ 36 → take 13 (drop 18 l) ≡ from l 18 13
+unfolding from
+en_read l h = sym (ap (λ (m : List Float). take 13 (drop 18 m)) (all_read l 36 h))
 
 -- the parts of what is joined, read again
 module _ (own en area : List Float) (h : length own ≡ 18) (k : length en ≡ 13) where

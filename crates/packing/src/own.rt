@@ -14,7 +14,7 @@ use lambert_azimuthal_equal_area::{Aspect, LambertAzimuthalEqualArea};
 use projection::Area;
 use refusals::Refusal;
 
-// The marks of the kinds, as the f64 of their pattern.
+// The marks of the kinds, as the f64 of their pattern. They are numbers and no enum: C keeps a projection as numbers.
 const LAMBERT: f64 = f64::from_bits(332);
 
 const ALBERS: f64 = f64::from_bits(321);
@@ -47,6 +47,7 @@ fn aspect_number(aspect: Aspect) -> f64
     }
 }
 
+// A function for each kind, and one in unpack.rt to read it: what they share is no more than the list, since each kind has fields of its own.
 #[tactic(auto, unfolding(crate::specs::Packing::lambert_of))]
 pub(crate) fn lambert(p: LambertAzimuthalEqualArea) -> [f64; 18]
     ensures { (at result 0 ≡ f64 332) × (lambert_of result ≡ p) }

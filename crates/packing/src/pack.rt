@@ -6,7 +6,7 @@ use crate::own;
 use kinds::{Built, Projection};
 use refusals::Refusal;
 
-#[tactic(auto, using(crate::proofs::Marks::lambert_marked, crate::proofs::Marks::albers_marked, crate::proofs::Marks::equal_earth_marked, crate::proofs::Marks::cassini_marked, crate::proofs::Marks::polyconic_marked, crate::proofs::Marks::guam_marked))]
+#[tactic(auto, using(crate::proofs::Marks::marked_kinds))]
 fn own_numbers(built: Result<Built, Refusal>) -> [f64; 18]
     ensures { built_of result ≡ built }
 {

@@ -188,13 +188,12 @@ fn area_of(n: &[f64; 36]) -> Option<Area>
     }
 }
 
-#[tactic(auto, unfolding(crate::specs::Packing::unpacked, crate::specs::Packing::from))]
+#[tactic(auto, unfolding(crate::specs::Packing::unpacked))]
 pub fn unpacked(n: &[f64; 36]) -> Projection
     ensures { result ≡ unpacked n.now }
 {
-    let en = [
-        n[18], n[19], n[20], n[21], n[22], n[23], n[24], n[25], n[26], n[27], n[28], n[29], n[30],
-    ];
+    let mut en = [0.0; 13];
+    en.copy_from_slice(&n[18..31]);
     Projection {
         built: built_of(n),
         en,

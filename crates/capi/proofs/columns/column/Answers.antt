@@ -12,4 +12,4 @@ returns-then-v-n c = let held = c.fill.ensures in
     (filled _ _ _ _ _ _ _ _ _ c.if-v-n.true (held.0, held.1, held.2), λ z. held.3)
 
 pub returns-else-v-n : goal.returns-else-v-n
-returns-else-v-n c = (kept _ _ _ _ _ _ c.if-v-n.false, λ z. absurd (omega (arith, z)))
+returns-else-v-n c = rw c.number.ensures (kept _ _ _ _ _ _ c.if-v-n.false, λ z. absurd (omega (arith, z)))
