@@ -23,6 +23,7 @@ fn difference(a: u32, b: u32) -> f64
     (a as i32 - b as i32) as f64
 }
 
+#[tactic(auto, unfolding(crate::specs::Logarithm::ln_near_one))]
 fn ln_near_one(m: f64, n: f64) -> f64
     ensures { result ≡ ln_near_one m n }
 {
