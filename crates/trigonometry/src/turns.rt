@@ -39,6 +39,7 @@ pub(crate) fn rem_turn(x: f64) -> f64
     }
 }
 
+#[tactic(auto, unfolding(crate::specs::Turns::rem_euclid))]
 pub fn rem_euclid(x: f64) -> f64
     ensures { result ≡ rem_euclid x }
 {
