@@ -126,6 +126,7 @@ fn turned(k: u32, half: u32, r: f64) -> SinCos
 }
 
 // Sine and cosine of one angle, which is reduced once.
+#[tactic(auto, unfolding(crate::specs::Trigonometry::sine, crate::specs::Trigonometry::cosine), using(sums::proofs::Counting::bit_is, crate::proofs::Quarters::quarter_more, crate::proofs::Quarters::half_more))]
 pub fn sin_cos(x: f64) -> SinCos
     ensures { (result.sin ≡ sine x) × (result.cos ≡ cosine x) }
 {
