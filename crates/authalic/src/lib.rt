@@ -12,12 +12,14 @@ use trigonometry::sin;
 // e2 below this in size counts as a sphere's.
 const ITERATION_ECCENTRICITY_EPSILON: f64 = 1e-15;
 
+#[tactic(auto, unfolding(crate::specs::Authalic::spherical))]
 fn is_spherical(e2: f64) -> bool
     ensures { result ≡ spherical e2 }
 {
     abs(e2) < ITERATION_ECCENTRICITY_EPSILON
 }
 
+#[tactic(auto, unfolding(crate::specs::Authalic::ellipsoidal_q))]
 fn ellipsoidal_q(lat: f64, e2: f64) -> f64
     ensures { result ≡ ellipsoidal_q lat e2 }
 {
@@ -29,6 +31,7 @@ fn ellipsoidal_q(lat: f64, e2: f64) -> f64
             - (1.0 / (2.0 * e)) * ln((1.0 - e_sin) / (1.0 + e_sin)))
 }
 
+#[tactic(auto, unfolding(crate::specs::Authalic::authalic_q))]
 pub fn authalic_q(lat: f64, e2: f64) -> f64
     ensures { result ≡ authalic_q lat e2 }
 {
@@ -40,12 +43,14 @@ pub fn authalic_q(lat: f64, e2: f64) -> f64
 }
 
 // The authalic latitude β from q and its value at the pole.
+#[tactic(auto, unfolding(crate::specs::Authalic::authalic_latitude))]
 pub fn authalic_latitude(q: f64, q_p: f64) -> f64
     ensures { result ≡ authalic_latitude q q_p }
 {
     asin(clamp(q / q_p, -1.0, 1.0))
 }
 
+#[tactic(auto, unfolding(crate::specs::Authalic::authalic_series))]
 fn authalic_series(beta: f64, e2: f64) -> f64
     ensures { result ≡ authalic_series beta e2 }
 {
@@ -56,6 +61,7 @@ fn authalic_series(beta: f64, e2: f64) -> f64
         + (761.0 * e6 / 45360.0) * sin(6.0 * beta)
 }
 
+#[tactic(auto, unfolding(crate::specs::Authalic::geodetic_from_authalic))]
 pub fn geodetic_from_authalic(beta: f64, e2: f64) -> f64
     ensures { result ≡ geodetic_from_authalic beta e2 }
 {

@@ -141,3 +141,7 @@ module _ (x : Float) (held : T (fits binary64 x)) (finite_x : T (finite x)) (abo
   pub parts_normal : (x ≺ MIN_POSITIVE) ≡ false
       → ln_parts (m_of (to_bits binary64 x)) (k_of (to_bits binary64 x) 1023) ≡ ln_parts (mantissa x) (exponent x)
   parts_normal e = same_parts (to_bits binary64 x) 1023 (split_normal e)
+
+pub minus_infinity : f64 0xfff0000000000000 ≡ inf true
+unfolding of_bits
+minus_infinity = refl

@@ -10,6 +10,7 @@ use sums::odd_sum;
 // The f64 nearest to 3π/4.
 const FRAC_3_PI_4: f64 = f64::from_bits(0x4002_d97c_7f33_21d2);
 
+#[tactic(auto, unfolding(crate::specs::Arctangent::half_angle))]
 fn half_angle(t: f64) -> f64
     ensures { result ≡ half_angle t }
 {
@@ -17,6 +18,7 @@ fn half_angle(t: f64) -> f64
 }
 
 // At -w the signs alternate.
+#[tactic(auto, unfolding(crate::specs::Arctangent::arc), using(sums::proofs::Alternating::alternating_is))]
 fn arc(t: f64) -> f64
     ensures { result ≡ arc t }
 {
@@ -29,6 +31,7 @@ fn at_most_one(t: f64) -> f64
     if t > 1.0 { 1.0 / t } else { t }
 }
 
+#[tactic(auto, unfolding(crate::specs::Arctangent::arctangent))]
 pub fn atan(x: f64) -> f64
     ensures { result ≡ arctangent x }
 {
@@ -38,6 +41,7 @@ pub fn atan(x: f64) -> f64
     pick(is_negative(x), -b, b)
 }
 
+#[tactic(auto, unfolding(crate::specs::Arctangent::arcsine))]
 pub fn asin(x: f64) -> f64
     ensures { result ≡ arcsine x }
 {
@@ -51,6 +55,7 @@ pub fn asin(x: f64) -> f64
     atan(x / root((1.0 - x) * (1.0 + x)))
 }
 
+#[tactic(auto, unfolding(crate::specs::Arctangent::on_axis))]
 fn on_axis(y: f64, x: f64) -> bool
     ensures { result ≡ on_axis y x }
 {
@@ -58,6 +63,7 @@ fn on_axis(y: f64, x: f64) -> bool
 }
 
 // Where y or x is zero or infinite.
+#[tactic(auto, unfolding(crate::specs::Arctangent::axis_angle))]
 fn axis_angle(y: f64, x: f64) -> f64
     ensures { result ≡ axis_angle y x }
 {
@@ -67,6 +73,7 @@ fn axis_angle(y: f64, x: f64) -> f64
     pick((y == 0.0) | (is_finite(y) & far), pick(s, PI, 0.0), across)
 }
 
+#[tactic(auto, unfolding(crate::specs::Arctangent::atan2))]
 pub fn atan2(y: f64, x: f64) -> f64
     ensures { result ≡ atan2 y x }
 {

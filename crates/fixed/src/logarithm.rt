@@ -23,6 +23,7 @@ fn difference(a: u32, b: u32) -> f64
     (a as i32 - b as i32) as f64
 }
 
+#[tactic(auto, unfolding(crate::specs::Logarithm::ln_near_one))]
 fn ln_near_one(m: f64, n: f64) -> f64
     ensures { result ≡ ln_near_one m n }
 {
@@ -31,6 +32,7 @@ fn ln_near_one(m: f64, n: f64) -> f64
 }
 
 // ln of the number with the pattern b, if `bias` is the exponent's field of 1.
+#[tactic(auto, unfolding(crate::specs::Logarithm::ln_parts), using(float::proofs::Patterns::pattern_of_number, crate::proofs::MantissaStep::step, sums::proofs::Counting::bit_is))]
 fn ln_of_pattern(b: u64, bias: u32) -> f64
     requires { bias ≤ 4096 }
     ensures { result ≡ ln_parts (f64 (0x3ff0000000000000 + b % 2 ^ 52)) (pos (b / 2 ^ 52) -ℤ pos bias) }
@@ -42,6 +44,7 @@ fn ln_of_pattern(b: u64, bias: u32) -> f64
 }
 
 // m and k are read off x's bits. A subnormal x is multiplied by 2^54 first, which is exact.
+#[tactic(auto, unfolding(crate::specs::Logarithm::ln), using(crate::proofs::PatternSplit::parts_small, crate::proofs::PatternSplit::parts_normal, crate::proofs::PatternSplit::minus_infinity))]
 pub fn ln(x: f64) -> f64
     ensures { result ≡ ln x }
 {

@@ -2,6 +2,7 @@
 pub mod Patterns
 pub mod SignBit
 pub mod SignLaws
+mod AsRust
 -- ---- numbers of p binary digits
 pub mod Powers
 mod Multiples

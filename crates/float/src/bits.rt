@@ -4,6 +4,7 @@ ghost use Rattle.std.specs.Float.{nan, binary64};
 ghost use Rattle.std.specs.Float.Ieee.{of_bits, to_bits, is_nan};
 ghost use Rattle.std.specs.Float.Ieee.Scale.{finite};
 
+#[tactic(auto, using(crate::proofs::Patterns::pattern_of_nan))]
 pub fn nan() -> f64
     ensures { result ≡ nan }
 {
@@ -16,6 +17,7 @@ pub fn is_nan(x: f64) -> bool
     x.is_nan()
 }
 
+#[tactic(auto, using(crate::proofs::AsRust::finite_in_rust))]
 pub fn is_finite(x: f64) -> bool
     ensures { result ≡ finite x }
 {
@@ -23,6 +25,7 @@ pub fn is_finite(x: f64) -> bool
 }
 
 // The f64 of a pattern. Rust's `from_bits` requires that it is no NaN's.
+#[tactic(auto, using(crate::proofs::Patterns::pattern_of_nan, crate::proofs::Patterns::pattern_of_number))]
 pub fn f64_of(bits: u64) -> f64
     ensures { result ≡ of_bits binary64 bits }
 {
@@ -34,6 +37,7 @@ pub fn f64_of(bits: u64) -> f64
 }
 
 // The pattern of an f64. Rust's `to_bits` requires that x is no NaN.
+#[tactic(auto, using(crate::proofs::AsRust::nan_pattern))]
 pub fn bits_of(x: f64) -> u64
     ensures { result ≡ to_bits binary64 x }
 {

@@ -63,6 +63,7 @@ fn clenshaw(sin_zeta: f64, cos_zeta: f64, c: &[f64]) -> f64
 }
 
 // The coefficients of sin 2ζ, sin 4ζ, .. sin 12ζ. Each is a row's polynomial in n², times a power of n.
+#[tactic(auto, unfolding(crate::specs::Meridian::sine_coefficients, crate::specs::Meridian::rows))]
 fn sine_coefficients(n: f64, table: [f64; 12]) -> [f64; 6]
     ensures { result ≡ sine_coefficients n table }
 {
@@ -82,6 +83,7 @@ fn sine_coefficients(n: f64, table: [f64; 12]) -> [f64; 6]
 }
 
 // 01's thirteen numbers: one arc factor, six sine coefficients forward, six back.
+#[tactic(auto, unfolding(crate::specs::Meridian::meridian_arc_coefficients, crate::specs::Meridian::coefficients, crate::specs::Meridian::arc_factor, crate::specs::Meridian::third_flattening, crate::specs::Meridian::sine_coefficients, crate::specs::Meridian::rows))]
 pub fn meridian_arc_coefficients(es: f64) -> [f64; 13]
     ensures { result ≡ meridian_arc_coefficients es }
 {
@@ -95,6 +97,7 @@ pub fn meridian_arc_coefficients(es: f64) -> [f64; 13]
 
 // The arc from the equator to the latitude φ, in units of the semi-major axis.
 // The numbers stay an array: this function and its inverse take any thirteen, and a type with an invariant would ask more.
+#[tactic(auto, unfolding(crate::specs::Meridian::meridian_arc))]
 pub fn meridian_arc(phi: f64, sin_phi: f64, cos_phi: f64, en: [f64; 13]) -> f64
     ensures { result ≡ meridian_arc phi sin_phi cos_phi en }
 {
@@ -102,6 +105,7 @@ pub fn meridian_arc(phi: f64, sin_phi: f64, cos_phi: f64, en: [f64; 13]) -> f64
 }
 
 // The latitude φ at the end of an arc from the equator, in units of the semi-major axis.
+#[tactic(auto, unfolding(crate::specs::Meridian::inverse_meridian_arc))]
 pub fn inverse_meridian_arc(ml: f64, en: [f64; 13]) -> f64
     ensures { result ≡ inverse_meridian_arc ml en }
 {

@@ -1,12 +1,12 @@
 -- The root of m * 2 ^ e units, for an m of 53 digits, by the nearest whole root of m or 2 * m.
-use Rattle.std.proofs.Common.{◌≡◌, ℕ, zero, suc, ◌+◌, ◌-◌, ◌*◌, ◌/◌, ◌%◌, ◌^◌, ◌<◌, ◌≤◌, false, refl, ap, ◌∙◌, ap₂, lt_of_lt_of_le, mul_assoc, le-mul_of_pos_right, arith, pow_pos, pow_mono, pow-add, shl_lt, shl_exact}
+use Rattle.std.proofs.Common.{◌≡◌, ℕ, zero, suc, ◌+◌, ◌-◌, ◌*◌, ◌/◌, ◌%◌, ◌^◌, ◌<◌, ◌≤◌, false, not, T, refl, sym, ap, ◌∙◌, ap₂, lt_of_lt_of_le, mul_assoc, le-mul_of_pos_right, arith, pow_pos, pow_mono, pow-add, shl_lt, shl_exact}
 use native.Mathlib.Nat.{pow-succ'}
-use lib.Ieee.{binary64, size, units}
+use lib.Ieee.{binary64, size, units, of_bits, nan_bits}
 use Rattle.root.specs.Root.{nearest_root, root_units}
 use Rattle.root.specs.Nearest.{NearestWhole}
 use Rattle.root.proofs.NearWhole.{between, near_unique}
 use Rattle.root.proofs.NearestRoot.{nearest_root_near}
-use Rattle.root.proofs.Packed.{size_scaled}
+use Rattle.root.proofs.Packed.{size_scaled, packed, packed_no_nan}
 
 quadruple : (x y : ℕ) → x ≡ y * y → 4 * x ≡ 2 * y * (2 * y)
 quadruple x y h = omega arith
@@ -65,3 +65,11 @@ pub rooted_nearest : {m e : ℕ} → 2 ^ 52 ≤ m → m < 2 ^ 53 → 52 ≤ e �
 rooted_nearest {m} {e} lo hi E =
     let w : ℕ = m * 2 ^ (e % 2) * 2 ^ 52 in
     (nearest_root (w * 4 ^ 0) 0, rooted lo hi E (nearest_root_near w 0 (omega (arith, shifted_ge m (e % 2))) (omega (arith, shifted_lt m (e % 2) hi (omega arith)))))
+
+-- t and the exponent in one pattern
+module _ (m e t : ℕ) (lo : 2 ^ 52 ≤ m) (hi : m < 2 ^ 53) (E : 52 ≤ e) (L : e < 4096) (v : NearestWhole (m * 2 ^ (e % 2) * 2 ^ 52) t) where
+  pub packed_root : of_bits binary64 ((e / 2 - 26) * 2 ^ 52 + t) ≡ root_units (m * 2 ^ e)
+  packed_root = let r = rooted lo hi E v in packed _ _ r.most (omega arith) r.least ∙ sym r.root
+
+  pub packed_root_no_nan : T (not (nan_bits binary64 ((e / 2 - 26) * 2 ^ 52 + t)))
+  packed_root_no_nan = packed_no_nan _ _ (rooted lo hi E v).most (omega arith)

@@ -2,7 +2,7 @@
 use Rattle.std.proofs.Common.{◌≡◌, ℕ, zero, suc, ◌*◌, ◌/◌, ◌^◌, ◌<◌, Bool, true, false, not, ◌&&◌, ◌||◌, T, eqb, ℤ, sym, refl, ◌∙◌, ap₂, true≢false, zero-lt-suc, mul-pos, arith, lt→ltb, ltb-false, ltb-true, eqb-true, ◌+◌, ◌%◌, subst}
 use mathlib.Core.Bool.{beq}
 use lib.Count.{count_leading_zeros}
-use lib.Ieee.{Float, nan, inf, fin, binary64, up, down, fits, lt, eq, is_nan, to_bits, of_bits}
+use lib.Ieee.{Float, nan, inf, fin, binary64, up, down, fits, lt, eq, div, is_nan, to_bits, of_bits}
 use lib.Ieee.Fits.{up_pos}
 use lib.Ieee.Positive.{positive}
 use Rattle.float.specs.Constants.{+0}
@@ -69,8 +69,8 @@ zeros_equal a b c p q = ap₂ (λ (x y : ℕ). eqb x y && (c || eqb x 0)) p q �
     go true = refl
     go false = refl
 
-pub root_of_none : (x : Float) → lt +0 x ≡ false → eq x +0 ≡ false → nan ≡ root x
-unfolding lt eq root of_bits
+pub root_of_none : (x : Float) → lt +0 x ≡ false → eq x +0 ≡ false → div binary64 +0 +0 ≡ root x
+unfolding lt eq root of_bits div
 root_of_none nan h k = refl
 root_of_none (inf true) h k = refl
 root_of_none (inf false) h k = never (sym h)

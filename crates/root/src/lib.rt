@@ -12,6 +12,7 @@ ghost use Rattle.root.specs.Root.{root, root_units};
 pub use plane::distance;
 
 // The root of m * 2^e, both in units of 2^-1074: q * 2^(e / 2 - 26), and q's leading digit adds one to the exponent's field.
+#[tactic(auto, using(crate::proofs::RootUnits::packed_root, crate::proofs::RootUnits::packed_root_no_nan))]
 fn scaled_root(m: u64, e: u64) -> f64
     requires { (2 ^ 52 ≤ m) × (m < 2 ^ 53) × (52 ≤ e) × (e < 4096) }
     ensures { result ≡ root_units (m * 2 ^ e) }
@@ -21,6 +22,7 @@ fn scaled_root(m: u64, e: u64) -> f64
 }
 
 // The square root of x: a subnormal x is shifted up until its leading digit stands at 2^52.
+#[tactic(auto, using(crate::proofs::Tests::root_of_zero, crate::proofs::Tests::root_of_none, crate::proofs::Tests::root_of_infinity, crate::proofs::Tests::root_of_small, crate::proofs::Tests::root_of_normal))]
 pub fn root(x: f64) -> f64
     ensures { result ≡ root x }
 {

@@ -44,6 +44,7 @@ fn root_of(n: u64) -> u64
 }
 
 // The whole number nearest to the root of m * 2^p * 2^52.
+#[tactic(auto, using(crate::proofs::RootUnits::shifted, crate::proofs::RootUnits::shifted_lt, crate::proofs::RootUnits::shifted_ge))]
 pub(crate) fn near_root(m: u64, p: u64) -> u64
     requires { (2 ^ 52 ≤ m) × (m < 2 ^ 53) × (p < 2) }
     ensures { NearestWhole (m * 2 ^ p * 2 ^ 52) result }

@@ -33,6 +33,7 @@ fn inverse_factorial(n: u32) -> f64
 }
 
 // -1/n! + w×(1/(n + 2)! + w×(-1/(n + 4)! + .. + w×1/(n + 14)!)), with n = 3 where `odd`, else 2.
+#[tactic(auto, unfolding(crate::specs::Factorials::factorial_terms), using(crate::proofs::Counting::bit_is))]
 pub fn factorial_sum(odd: bool, w: f64) -> f64
     ensures { result ≡ nested w (factorial_terms (2 + bit odd)) }
 {

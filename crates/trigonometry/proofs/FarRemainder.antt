@@ -89,11 +89,17 @@ holds {b = true} t = refl
 holds {b = false} t = absurd t
 
 -- a finite float, by its sign
-pub signed : (x : Float) {s : Bool} → fits binary64 x ≡ true → finite x ≡ true → negative x ≡ s → Finite binary64 x s (unit_count binary64 x)
+signed : (x : Float) {s : Bool} → fits binary64 x ≡ true → finite x ≡ true → negative x ≡ s → Finite binary64 x s (unit_count binary64 x)
 signed x held bounded sign = rw sign at (finite_of binary64 x (subst T (sym held) tt) (subst T (sym bounded) tt))
 
 -- ---- the two steps
-module _ {y : Float} {a : ℕ} (p : Finite binary64 y false a) where
+module _ (y : Float) (held : fits binary64 y ≡ true) (bounded : finite y ≡ true) (plus : negative y ≡ false) where
+  abbrev a : ℕ
+  a = unit_count binary64 y
+
+  abbrev p : Finite binary64 y false a
+  p = signed y held bounded plus
+
   -- whether y is below a turn is asked of the units
   not_near : y ≺ TURN ≡ false → turn ≤ a
   not_near far = ltb-false a turn (sym (lt_units p.units turn_is.units) ∙ far)
@@ -157,17 +163,20 @@ module _ {y : Float} {a : ℕ} (p : Finite binary64 y false a) where
           finite_unique (rw exact at (sub_ge twice_is turn_is least)) (rw (twice_above m.h turn pos least) at of_y)
 
 -- ---- both signs, and what is no number
-module _ {x : Float} {a : ℕ} (p : Finite binary64 x true a) where
+module _ (x : Float) (held : fits binary64 x ≡ true) (bounded : finite x ≡ true) (minus : negative x ≡ true) where
+  abbrev q : Finite binary64 x true (unit_count binary64 x)
+  q = signed x held bounded minus
+
   pub turned_bounded : finite (neg x) ≡ true
-  turned_bounded = holds (units_finite (neg_finite p).units)
+  turned_bounded = holds (units_finite (neg_finite q).units)
 
   pub turned_plus : negative (neg x) ≡ false
-  turned_plus = units_sign (neg_finite p).units
+  turned_plus = units_sign (neg_finite q).units
 
   pub turned : {r : Float} → r ≡ neg x fmod TURN → neg r ≡ x fmod TURN
   turned e =
       let pos : 0 < turn = omega (arith, turn_large) in
-      finite_unique (subst (λ z. Finite binary64 (neg z) true (a % turn)) (sym e) (neg_finite (rem_finite (neg_finite p) turn_is pos))) (rem_finite p turn_is pos)
+      finite_unique (subst (λ z. Finite binary64 (neg z) true (unit_count binary64 x % turn)) (sym e) (neg_finite (rem_finite (neg_finite q) turn_is pos))) (rem_finite q turn_is pos)
 
 pub no_number : (x : Float) → finite x ≡ false → nan ≡ x fmod TURN
 unfolding rem of_bits

@@ -5,12 +5,14 @@ use crate::turns::rem_turn;
 use float::{FRAC_PI_2, FRAC_PI_4, LO, TURN, abs, is_finite, is_negative, nan, pick};
 use sums::factorial_sum;
 
+#[tactic(auto, unfolding(crate::specs::Trigonometry::within_turn))]
 fn within_turn(z: f64) -> f64
     ensures { result ≡ within_turn z }
 {
     if z > TURN { rem_turn(z) } else { z }
 }
 
+#[tactic(auto, unfolding(crate::specs::Trigonometry::quarters), using(sums::proofs::Counting::bit_is, sums::proofs::Counting::bit_most))]
 fn quarters(z: f64) -> u32
     ensures { (result ≡ quarters z) × (result ≤ 4) }
 {
@@ -20,12 +22,14 @@ fn quarters(z: f64) -> u32
         + u32::from(z > 7.0 * FRAC_PI_4)
 }
 
+#[tactic(auto, unfolding(crate::specs::Trigonometry::rest))]
 fn rest(z: f64, k: u32) -> f64
     ensures { result ≡ rest z k }
 {
     (z - (k as f64) * FRAC_PI_2) - (k as f64) * LO
 }
 
+#[tactic(auto, unfolding(crate::specs::Trigonometry::sine_sum))]
 fn sine_sum(r: f64) -> f64
     ensures { result ≡ sine_sum r }
 {
@@ -33,6 +37,7 @@ fn sine_sum(r: f64) -> f64
     r + (r * w) * factorial_sum(true, w)
 }
 
+#[tactic(auto, unfolding(crate::specs::Trigonometry::cosine_sum))]
 fn cosine_sum(r: f64) -> f64
     ensures { result ≡ cosine_sum r }
 {
@@ -47,6 +52,7 @@ fn series(even: bool, r: f64) -> f64
     if even { sine_sum(r) } else { cosine_sum(r) }
 }
 
+#[tactic(auto, unfolding(crate::specs::Trigonometry::sine_at), using(crate::proofs::Quarters::by_parity))]
 fn sine_at(k: u32, r: f64) -> f64
     ensures { result ≡ sine_at k r }
 {
@@ -61,6 +67,7 @@ struct Angle {
     r: f64,
 }
 
+#[tactic(auto, unfolding(crate::specs::Trigonometry::quarters_of, crate::specs::Trigonometry::rest_of))]
 fn reduced(x: f64) -> Angle
     ensures { (result.k ≡ quarters_of x) × (result.r ≡ rest_of x) × (result.k ≤ 4) }
 {
@@ -70,6 +77,7 @@ fn reduced(x: f64) -> Angle
     Angle { k, r }
 }
 
+#[tactic(auto, unfolding(crate::specs::Trigonometry::sine))]
 pub fn sin(x: f64) -> f64
     ensures { result ≡ sine x }
 {
@@ -83,6 +91,7 @@ pub fn sin(x: f64) -> f64
 }
 
 // The cosine is the sine a quarter turn further.
+#[tactic(auto, unfolding(crate::specs::Trigonometry::cosine), using(crate::proofs::Quarters::quarter_more))]
 pub fn cos(x: f64) -> f64
     ensures { result ≡ cosine x }
 {
@@ -102,6 +111,7 @@ pub struct SinCos {
 
 // Both sums are wanted, and each stands at a place that the quarter turns say: nothing is left to guess. Half a turn more
 // changes the sign.
+#[tactic(auto, unfolding(crate::specs::Trigonometry::sine_at))]
 fn turned(k: u32, half: u32, r: f64) -> SinCos
     requires { (k ≤ 4) × (half ≤ 1) }
     ensures { (result.sin ≡ sine_at (k + 2 * half) r) × (result.cos ≡ sine_at (k + 1) r) }
@@ -116,6 +126,7 @@ fn turned(k: u32, half: u32, r: f64) -> SinCos
 }
 
 // Sine and cosine of one angle, which is reduced once.
+#[tactic(auto, unfolding(crate::specs::Trigonometry::sine, crate::specs::Trigonometry::cosine), using(sums::proofs::Counting::bit_is, crate::proofs::Quarters::quarter_more, crate::proofs::Quarters::half_more))]
 pub fn sin_cos(x: f64) -> SinCos
     ensures { (result.sin ≡ sine x) × (result.cos ≡ cosine x) }
 {
@@ -129,6 +140,7 @@ pub fn sin_cos(x: f64) -> SinCos
     }
 }
 
+#[tactic(auto, unfolding(crate::specs::Trigonometry::tangent))]
 pub fn tan(x: f64) -> f64
     ensures { result ≡ tangent x }
 {

@@ -8,6 +8,7 @@ ghost use Rattle.trigonometry.specs.Turns.{rem_euclid};
 use float::{TURN, is_finite, is_negative, nan};
 
 // y % TURN of a finite y whose sign is plus. Twice the remainder of its half is that, or a turn more. Each step is exact.
+#[tactic(auto, using(crate::proofs::FarRemainder::near, crate::proofs::FarRemainder::half_bounded, crate::proofs::FarRemainder::half_plus, crate::proofs::FarRemainder::half_fewer, crate::proofs::FarRemainder::below_turn, crate::proofs::FarRemainder::above_turn))]
 fn far_remainder(y: f64) -> f64
     requires bounded { finite y ≡ true }
     requires plus { negative y ≡ false }
@@ -23,6 +24,7 @@ fn far_remainder(y: f64) -> f64
 }
 
 // x % TURN. Less than a turn away from 0, as nearly every longitude is, that is x itself.
+#[tactic(auto, using(crate::proofs::OwnRemainder::own_remainder, crate::proofs::FarRemainder::turned_bounded, crate::proofs::FarRemainder::turned_plus, crate::proofs::FarRemainder::turned, crate::proofs::FarRemainder::no_number))]
 pub(crate) fn rem_turn(x: f64) -> f64
     ensures { result ≡ x fmod TURN }
 {
@@ -39,6 +41,7 @@ pub(crate) fn rem_turn(x: f64) -> f64
     }
 }
 
+#[tactic(auto, unfolding(crate::specs::Turns::rem_euclid))]
 pub fn rem_euclid(x: f64) -> f64
     ensures { result ≡ rem_euclid x }
 {
