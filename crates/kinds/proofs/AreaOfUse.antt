@@ -1,11 +1,13 @@
 -- What an area of use changes, and what it leaves: without one every answer is the kind's own, and with one a place inside has the same bits.
 use Prim.Native.Nat.{ℕ}
 use mathlib.Core.Path.{◌≡◌, refl, sym, ◌∙◌}
+use mathlib.Core.Bool.{true, false≢true}
+use mathlib.Core.Logic.{◌⊎◌, inl, inr}
 use mathlib.Core.List.{List}
 use native.Mathlib.Omega.{arith}
 use lib.Ieee.{Float}
 use Rattle.std.specs.Prelude.{Option, Some, None, Result, Ok, Err}
-use Rattle.std.specs.Result.{result_and}
+use Rattle.std.specs.Result.{result_and, is_err}
 use Rattle.refusals.specs.Refusals.{number}
 use Rattle.refusals.specs.declared.Refusal.{Refusal}
 use Rattle.refusals.proofs.Refused.{refused}
@@ -70,6 +72,24 @@ module _ (p : Projection) (lon lat : Float) where
           → and_then b (λ k. result_and (validate_lon_lat lon lat) (forward_of k p.en lon lat)) ≡ and_then b (λ k. forward_of k p.en lon lat)
       go (Ok b) = checked_by_kind b p.en lon lat
       go (Err r) = refl
+
+  -- in other words: of a projection that was refused, and of a place inside, it is the kind's own answer
+  pub forward_stays : (is_err p.built ≡ true) ⊎ (validate_place p.area lon lat ≡ passed) → own_forward p lon lat ≡ forward p lon lat
+  unfolding forward
+  forward_stays (inl e) = go p.built e
+    where
+      go : (b : Result Built Refusal) → is_err b ≡ true
+          → and_then b (λ k. forward_of k p.en lon lat)
+          ≡ and_then b (λ k. result_and (validate_lon_lat lon lat) (result_and (validate_place p.area lon lat) (forward_of k p.en lon lat)))
+      go (Ok b) h = absurd (false≢true h)
+      go (Err r) h = refl
+  forward_stays (inr z) = sym (forward_inside z)
+
+  -- and of a place outside it is the first refusal: 16 or 17, or else 26
+  pub forward_refused : (b : Built) (r : Refusal) → p.built ≡ Ok b → validate_place p.area lon lat ≡ Err r
+      → result_and (validate_lon_lat lon lat) (Err r) ≡ forward p lon lat
+  unfolding forward
+  forward_refused b r e z = rw (e, z) refl
 
   -- and so has every place without an area
   pub forward_anywhere : p.area ≡ None → forward p lon lat ≡ own_forward p lon lat

@@ -25,6 +25,7 @@ pub enum Aspect {
     SouthPolar,
 }
 
+// `spherical` and `aspect` are no one choice: C's 36 numbers hold each by itself, whoever wrote them.
 #[derive(Clone, Copy)]
 pub struct LambertAzimuthalEqualArea {
     pub a: f64,

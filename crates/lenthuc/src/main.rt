@@ -45,7 +45,7 @@ fn reads_more(reader: &mut impl Read) -> bool {
     }
 }
 
-// Reads until the buffer is full, the input ends or a read fails. Which of the last two it was, one more read tells.
+// Reads until the buffer is full, the input ends or a read fails, which no method of `Read` does. Which of the last two it was, one more read tells.
 fn read_sheet(reader: &mut impl Read, input: &mut [u8]) -> Reading
     ensures { result.count ≤ length input.new }
 {

@@ -1,4 +1,4 @@
-// What the oracle links: the functions that it compares and times, under C names. For the oracle alone.
+// What the oracle links: the functions that it compares and times, under C names. For the oracle alone. As in all of C's interface a refusal is a number.
 #![tactic(auto)]
 
 ghost use Rattle.std.specs.Prelude.{◌≡◌};

@@ -112,7 +112,7 @@ pub enum Refusal {
 }
 
 impl Refusal {
-    // Its number. It is never 0, which stands for an answer.
+    // Its number. It is never 0, which stands for an answer. Not by `as`: `Unlisted` has a number of its own.
     pub fn number(self) -> u8
         ensures { result ≡ number_of self }
     {
@@ -153,7 +153,7 @@ impl Refusal {
         }
     }
 
-    // The refusal of a number. There is none of 0.
+    // The refusal of a number. There is none of 0. An Option, and no TryFrom: 0 is no error, it stands for an answer.
     pub fn from_number(number: u8) -> Option<Refusal>
         ensures { result ≡ from_number number }
     {

@@ -16,9 +16,7 @@ pub(crate) fn of_albers(text: &[u8]) -> Option<Reply> {
             false_easting: number_of(text, 7),
             false_northing: number_of(text, 8),
         };
-        return Some(of_answer(
-            p.inverse(number_of(text, 9), number_of(text, 10)),
-        ));
+        return Some(of_answer(p.inverse(number_of(text, 9), number_of(text, 10))));
     }
     None
 }

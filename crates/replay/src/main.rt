@@ -42,7 +42,9 @@ fn input_buffer() -> [u8; ROOM]
 fn agrees(rt: &impl Print, line: &[u8]) -> io::Result<bool> {
     let text = uncommented(line);
     let ours = reply(question(text));
-    if let Some(said) = ours && is_said(answer(text), said) {
+    if let Some(said) = ours
+        && is_said(answer(text), said)
+    {
         return Ok(true);
     }
     rt.write_all(line)?;
@@ -72,7 +74,7 @@ fn line_at(input: &[u8], from: usize) -> &[u8]
     before(&input[from..], b'\n')
 }
 
-// Goes through the lines. The first of the present name stands at `first`.
+// Goes through the lines, by their places: the first of the present name stands at `first`, which an empty input has too.
 fn replay(rt: &impl Print, input: &[u8]) -> io::Result<()> {
     let mut first = 0;
     let mut ours: u64 = 0;
@@ -94,7 +96,7 @@ fn replay(rt: &impl Print, input: &[u8]) -> io::Result<()> {
     report(rt, name(line_at(input, first)), ours, lines)
 }
 
-// Reads until the buffer is full or the input ends, and gives how much was read.
+// Reads until the buffer is full or the input ends, and gives how much was read. No method of `Read` does both.
 fn read_full(reader: &mut impl Read, input: &mut [u8]) -> io::Result<usize>
     ensures { IfOk result (λ n. n ≤ length input.new) }
 {

@@ -11,7 +11,7 @@ use std::fmt;
 
 // A number as its bits, a row of a sheet (the number of a refusal or 0, and two results as bits) or of a charge (the charge, and the
 // shares in one number), the same of a ring (its area, the number of its points) with both buffers in one number, a number and a list
-// in one number, or that what is asked for is missing.
+// in one number, or that what is asked for is missing. A refusal is its number here, as the stored lines have it.
 #[derive(Clone, Copy)]
 pub(crate) enum Reply {
     Bits(u64),
