@@ -44,7 +44,7 @@ pub(crate) fn read_line_and_edges(text: &[u8]) -> Option<(Values, Area)> {
     if text.len() != LINE + 4 * 17 {
         return None;
     }
-    let values = read_line(&text[..LINE])?;
+    let values = read_line(text.get(..LINE)?)?;
     Some((values, read_edges(text)?))
 }
 

@@ -7,15 +7,14 @@ use sheet::{field, read_hex};
 
 // The line without its comment, which starts at `#`, and without the blanks before that. By an index, for the must-fail edit `before_the_line`.
 pub(crate) fn uncommented(line: &[u8]) -> &[u8] {
-    let text = before(line, b'#');
-    let mut end = text.len();
+    let mut end = before(line, b'#').len();
     while 0 < end {
-        if text[end - 1] != b' ' {
+        if line[end - 1] != b' ' {
             break;
         }
         end -= 1;
     }
-    &text[..end]
+    &line[..end]
 }
 
 // What stands before the first blank.
