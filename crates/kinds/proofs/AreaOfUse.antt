@@ -1,12 +1,10 @@
 -- What an area of use changes, and what it leaves: without one every answer is the kind's own, and with one a place inside has the same bits.
-use Prim.Native.Nat.{ℕ}
-use mathlib.Core.Path.{◌≡◌, refl, sym, ◌∙◌}
+use mathlib.Core.Path.{◌≡◌, refl, sym}
 use mathlib.Core.Bool.{true, false≢true}
 use mathlib.Core.Logic.{◌⊎◌, inl, inr}
 use mathlib.Core.List.{List}
-use native.Mathlib.Omega.{arith}
 use lib.Ieee.{Float}
-use Rattle.std.specs.Prelude.{Option, Some, None, Result, Ok, Err}
+use Rattle.std.specs.Prelude.{Some, None, Result, Ok, Err}
 use Rattle.std.specs.Result.{result_and, is_err}
 use Rattle.refusals.specs.Refusals.{number}
 use Rattle.refusals.specs.declared.Refusal.{Refusal}
@@ -14,7 +12,6 @@ use Rattle.refusals.proofs.Refused.{refused}
 use Rattle.projection.specs.Answer.{Answer, pair}
 use Rattle.projection.specs.Checks.{Check, passed, validate_lon_lat}
 use Rattle.projection.specs.AreaOfUse.{validate_area, validate_normalised, validate_place, ensure_inside}
-use Rattle.projection.specs.Ends.{finish}
 use Rattle.projection.specs.InArea.{InUnits, InArea}
 use Rattle.projection.specs.OnTheMap.{OnTheMap}
 use Rattle.projection.specs.declared.Area.{Area}
@@ -36,7 +33,7 @@ use Rattle.letters.specs.declared.Kind.{Kind}
 use Rattle.letters.specs.declared.Kind.TheVariants.{L, S, A, E, C, P, G}
 use Rattle.letters.specs.declared.Way.{Way}
 use Rattle.letters.specs.declared.Way.TheVariants.{Forward, Inverse}
-use Rattle.kinds.specs.Kinds.{and_then, plain, made, new, built_number, forward_of, forward, formula_of, formula_in, formula, inverse_of, inverse, inverse_in, answer_in, refused as no_projection, on_ellipsoid, build, project, checked_area, with_area}
+use Rattle.kinds.specs.Kinds.{and_then, plain, made, new, built_number, forward_of, forward, formula, inverse_of, inverse, inverse_in, answer_in, refused as no_projection, on_ellipsoid, build, project, checked_area, with_area}
 use Rattle.kinds.specs.declared.Built.{Built}
 use Rattle.kinds.specs.declared.Built.TheVariants.{Lambert, Albers, Equal, Cassini, Polyconic, Guam}
 use Rattle.kinds.specs.declared.Projection.{Projection}

@@ -6,14 +6,14 @@ use mathlib.Core.List.{List}
 use mathlib.Core.Logic.{◌⊎◌, inl, inr}
 use native.Mathlib.Omega.{arith}
 use lib.Ieee.{Float}
-use Rattle.std.specs.Prelude.{Option, Some, None, Result, Ok, Err}
+use Rattle.std.specs.Prelude.{Some, None, Result, Ok, Err}
 use Rattle.refusals.specs.declared.Refusal.{Refusal}
 use Rattle.refusals.specs.declared.Refusal.TheVariants.{OffTheMap}
 use Rattle.projection.specs.Answer.{Answer}
 use Rattle.projection.specs.AreaOfUse.{ensure_inside}
 use Rattle.projection.specs.Ends.{finish}
 use Rattle.projection.specs.declared.Frame.TheVariants as frame
-use Rattle.projection.proofs.OffTheMap.{off_if, inside_off, NeverOff, refused_never_off, inside_never_off}
+use Rattle.projection.proofs.OffTheMap.{off_if, inside_off, NeverOff, inside_never_off}
 use Rattle.lambert_azimuthal_equal_area.specs.Inverse as laea
 use Rattle.lambert_azimuthal_equal_area.proofs.OffTheMap as laea_proofs
 use Rattle.equal_earth.specs.EqualEarth as eqearth

@@ -1,5 +1,5 @@
 -- The choice over the seven kinds, with the meridian numbers and the area of use beside it.
-use Rattle.std.specs.Prelude.{ℕ, Bool, true, false, cond, List, replicate, Float, Option, Some, None, Result, Ok, Err, ⊤}
+use Rattle.std.specs.Prelude.{ℕ, Bool, true, false, cond, List, replicate, Float, Option, Some, None, Result, Ok, Err}
 use Rattle.std.specs.Result.{result_and}
 use Rattle.float.specs.Constants.{+0}
 use Rattle.refusals.specs.Refusals.{number}

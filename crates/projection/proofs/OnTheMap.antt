@@ -27,8 +27,7 @@ use Rattle.projection.specs.Ends.{ensure_finite_lon_lat, finish}
 use Rattle.projection.specs.OnTheMap.{WITHIN, FAR, Place, OnTheMap}
 use Rattle.projection.specs.Answer.{Answer, pair}
 use Rattle.projection.proofs.Pairs.{same_first, same_second}
-use Rattle.std.specs.Prelude.{Option, Some, None, Ok, Err}
-use Rattle.std.specs.Result.{result_and}
+use Rattle.std.specs.Prelude.{Ok, Err}
 use Rattle.refusals.specs.declared.Refusal.{Refusal}
 use Rattle.projection.proofs.Normalising.{Circle, turn_pos}
 use Rattle.projection.proofs.Normalised.{Run, run, good, good_le, idempotent}

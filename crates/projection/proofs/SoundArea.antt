@@ -1,16 +1,14 @@
 -- What passes 25: the edges of an area that a projection was built with are finite, so that all comparisons with them are exact.
-use Prim.Native.Nat.{ℕ}
 use mathlib.Core.Path.{◌≡◌, refl, subst}
 use mathlib.Core.Bool.{Bool, true, false, cond, ◌&&◌, ◌||◌}
-use native.Mathlib.Omega.{arith}
 use lib.Dec.{T}
 use lib.Ieee.Scale.{finite}
 use Rattle.float.specs.Operators.{◌≺◌}
 use Rattle.float.specs.Constants.{PI}
 use Rattle.float.specs.Sign.{abs}
-use Rattle.std.specs.Prelude.{Ok, Err}
+use Rattle.std.specs.Prelude.{Err}
 use Rattle.refusals.specs.declared.Refusal.TheVariants.{AreaEdges}
-use Rattle.projection.specs.Checks.{Check, passed}
+use Rattle.projection.specs.Checks.{passed}
 use Rattle.projection.specs.Bound.{LAT_BOUND}
 use Rattle.projection.specs.AreaOfUse.{validate_area}
 use Rattle.refusals.proofs.Refused.{refused}

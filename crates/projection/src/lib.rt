@@ -19,10 +19,9 @@ pub use checks::{
 pub use ends::{ensure_finite_lon_lat, ensure_finite_xy, finish};
 pub use longitude::normalize_longitude;
 pub use map_edge::beyond_edge;
+use refusals::Refusal;
 pub use results::both_results;
 pub use starts::enter;
-
-use refusals::Refusal;
 
 // What a projection answers: a pair of coordinates, or why there is none.
 pub type Answer = Result<(f64, f64), Refusal>;

@@ -4,7 +4,6 @@ use mathlib.Core.Path.{sym, ap, ◌∙◌}
 use mathlib.Core.Bool.{false≢true, Bool-set}
 use Rattle.std.specs.Prelude.{ℕ, ◌<◌, Bool, true, false, cond, ◌==◌, ◌≡◌, refl, List, [], ◌∷◌, get_or, Option, Some, None, Result, Ok, Err}
 use Rattle.refusals.specs.Unlisted.{is_unlisted, unlisted-byte}
-use Rattle.refusals.specs.declared.unlisted.Unlisted.{Unlisted}
 use Rattle.refusals.specs.declared.Refusal.{Refusal}
 use Rattle.refusals.specs.declared.Refusal.TheVariants as refusal
 
