@@ -20,7 +20,7 @@ pub(crate) fn reciprocal_root(n: u64) -> u32
 {
     let t = ((n >> 14) % 0x1_0000_0000) as u32;
     let square = (product(t, t) >> 32) as u32;
-    let Cubic { constant, slopes } = Cubic::at((n >> 46) as u8);
+    let Cubic { constant, slopes } = Cubic::at(u64::from((n >> 46) as u8));
     let line = minus_product(constant, t, (slopes >> 32) as u32);
     let curve = minus_product(
         (slopes / 0x2000 % 0x8_0000) as u32,

@@ -6,7 +6,7 @@ mod table;
 ghost use Rattle.std.specs.Prelude.{◌≡◌};
 ghost use Rattle.root_table.specs.Table.{cubic};
 
-use table::TABLE;
+use table::{LAST, TABLE};
 
 // c0 - t (c1 - t (c2 - t c3)): the constant is c0, and the slopes are c1 * 2^32 + c2 * 2^13 + c3.
 #[derive(Clone, Copy)]
@@ -16,11 +16,12 @@ pub struct Cubic {
 }
 
 impl Cubic {
-    // The cubic of the key k, 64 to 255; a key below has the last.
-    pub fn at(k: u8) -> Self
+    // The cubic of the key k, 64 to 255; any other key has the last. Where the key is known to be a byte the test is not compiled.
+    #[inline]
+    pub fn at(k: u64) -> Self
         ensures { result ≡ cubic k }
     {
-        let (constant, slopes) = TABLE[k as usize];
+        let (constant, slopes) = if k < 256 { TABLE[k as usize] } else { LAST };
         Cubic { constant, slopes }
     }
 }

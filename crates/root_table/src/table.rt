@@ -1,7 +1,7 @@
-// tools/root-table prints this file. A row is a cubic's constant and its slopes. Each u8 has one, so that no key has to be tested.
+// tools/root-table prints this file. A row is a cubic's constant and its slopes. Each byte has one, so that a key that is a byte is not tested.
 
-// The row of 255, and of each key below 64.
-const LAST: (u32, u64) = (2151690278, 18120471418445864);
+// The row of 255, and of each key that the table does not have.
+pub(crate) const LAST: (u32, u64) = (2151690278, 18120471418445864);
 
 pub(crate) static TABLE: [(u32, u64); 256] = [
     LAST,
