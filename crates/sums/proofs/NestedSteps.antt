@@ -1,10 +1,12 @@
--- A nested sum is a reduction of its coefficients, from the last to the first.
+-- A nested sum at any degree: step by step, and as a reduction of its coefficients from the last to the first.
 use mathlib.Core.Path.{◌≡◌, refl, ap, ◌∙◌}
 use mathlib.Core.List.{List, [], ◌∷◌, ◌++◌, reverse}
-use Prim.Native.Nat.{◌<◌}
+use Prim.Native.Nat.{ℕ, suc, ◌+◌, ◌<◌}
+use native.Mathlib.Numerals.{add-one}
 use native.Mathlib.Omega.{arith}
-use lib.Ieee.{Float}
-use lib.ListN.{length}
+use lib.Ieee.{Float, nan}
+use lib.ListN.{length, get_or, drop}
+use lib.Seq.{drop-cons, drop-length}
 use Rattle.std.proofs.lemmas.Grind.{reverse_onto, fold-append}
 use Rattle.std.proofs.lemmas.List.{length-reverse}
 use Rattle.std.specs.List.{reduce}
@@ -30,3 +32,22 @@ module _ (w : Float) where
       ap (λ (xs : List Float). unwrap_or (reduce onto xs) +0) (reverse_onto (d ∷ ds) c [])
       ∙ reduce_more onto (reverse (d ∷ ds)) c +0 (rw (length-reverse (d ∷ ds)) (omega arith))
       ∙ ap (λ (sum : Float). c ⊕ w ⊗ sum) (nested_reduced (d ∷ ds))
+
+-- the sum of the coefficients from i on, by the sum from i + 1 on
+pub nested_degree : (w : Float) (c : List Float) (i : ℕ)
+    → (i + 1 ≡ length c → nested w (drop i c) ≡ get_or c i nan)
+    × (i + 1 < length c → nested w (drop i c) ≡ get_or c i nan ⊕ w ⊗ nested w (drop (i + 1) c))
+unfolding nested
+nested_degree w c i = (last, step)
+  where
+    last : i + 1 ≡ length c → nested w (drop i c) ≡ get_or c i nan
+    last h =
+        let a : i < length c = omega arith in
+        let e : suc i ≡ length c = omega arith in
+        rw (drop-cons c i nan a, e, drop-length)
+
+    step : i + 1 < length c → nested w (drop i c) ≡ get_or c i nan ⊕ w ⊗ nested w (drop (i + 1) c)
+    step h =
+        let a : i < length c = omega arith in
+        let b : suc i < length c = omega arith in
+        rw (add-one, drop-cons c i nan a, drop-cons c (suc i) nan b)
