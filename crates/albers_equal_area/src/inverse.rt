@@ -15,11 +15,6 @@ use root::root;
 use trigonometry::sin_cos;
 
 impl Eccentricity {
-    // The inverse's rounds, and the difference below which they end.
-    const STEPS: usize = 15;
-
-    const TOLERANCE: f64 = 1e-14;
-
     // One round, from lat, towards the latitude of a q. It is given q / (1 - e2) and 1 / (2e), which no round changes.
     #[tactic(auto, unfolding(crate::specs::GivenQuotients::latitude_round_given))]
     fn latitude_round(self, scaled_q: f64, half_over_e: f64, lat: f64) -> f64
@@ -41,9 +36,9 @@ impl Eccentricity {
         let mut lat = asin(q / 2.0);
         let scaled_q = q / (1.0 - self.e2);
         let half_over_e = 1.0 / (2.0 * self.e);
-        for _ in 0..Self::STEPS {
+        for _ in 0..AlbersEqualArea::STEPS {
             let next = self.latitude_round(scaled_q, half_over_e, lat);
-            if abs(next - lat) < Self::TOLERANCE {
+            if abs(next - lat) < AlbersEqualArea::TOLERANCE {
                 return Ok(next);
             }
             lat = next;

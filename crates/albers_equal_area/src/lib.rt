@@ -87,6 +87,11 @@ impl AlbersEqualArea {
     // A cone constant below this in size is refused.
     const NO_CONE: f64 = 1e-12;
 
+    // The inverse's rounds, and the difference below which they end.
+    const STEPS: usize = 15;
+
+    const TOLERANCE: f64 = 1e-14;
+
     #[tactic(auto, unfolding(crate::specs::AlbersEqualArea::new))]
     pub fn new(ellipsoid: Ellipsoid, settings: Settings) -> Result<AlbersEqualArea, Refusal>
         ensures { result ≡ new ellipsoid settings }

@@ -12,7 +12,7 @@ use Rattle.ellipsoid.specs.declared.Ellipsoid.{Ellipsoid}
 use Rattle.meridian.specs.Meridian.{meridian_arc_coefficients, meridian_arc}
 use Rattle.refusals.specs.declared.Refusal.{Refusal}
 use Rattle.projection.specs.Answer.{Answer}
-use Rattle.projection.specs.Checks.{validate_settings, validate_projected}
+use Rattle.projection.specs.Checks.{with_origin, validate_settings, validate_projected}
 use Rattle.projection.specs.Starts.{enter, entered}
 use Rattle.projection.specs.Ends.{ensure_finite_xy, finish}
 use Rattle.projection.specs.declared.Settings.{Settings}
@@ -41,7 +41,7 @@ derived ellipsoid settings en =
 -- 6 to 10, or what is derived
 unfoldable pub built : Ellipsoid → Settings → List Float → Result AmericanPolyconic Refusal
 unfolding derived
-built ellipsoid settings en = result_and (validate_settings settings) (Ok (derived ellipsoid settings en))
+built ellipsoid settings en = result_and (validate_settings (with_origin settings.lon0 settings.lat0 settings.false_easting settings.false_northing)) (Ok (derived ellipsoid settings en))
 
 -- the meridian numbers stand beside what is built
 unfoldable pub new : Ellipsoid → Settings → NewAmericanPolyconic

@@ -62,7 +62,8 @@ impl AmericanPolyconic {
     ) -> Result<AmericanPolyconic, Refusal>
         ensures { result ≡ built ellipsoid settings en }
     {
-        validate_settings(settings)?;
+        // The parallels, which this kind does not have, are not looked at.
+        validate_settings(Settings { lat1: 0.0, lat2: 0.0, ..settings })?;
         Ok(Self::derived(ellipsoid, settings, en))
     }
 

@@ -13,7 +13,7 @@ use Rattle.ellipsoid.specs.declared.Ellipsoid.{Ellipsoid}
 use Rattle.meridian.specs.Meridian.{third_flattening}
 use Rattle.refusals.specs.declared.Refusal.{Refusal}
 use Rattle.projection.specs.Answer.{Answer}
-use Rattle.projection.specs.Checks.{validate_settings, validate_projected}
+use Rattle.projection.specs.Checks.{with_origin, validate_settings, validate_projected}
 use Rattle.projection.specs.Starts.{enter, entered}
 use Rattle.projection.specs.Ends.{ensure_finite_xy, finish}
 use Rattle.projection.specs.declared.Settings.{Settings}
@@ -43,7 +43,7 @@ derived ellipsoid settings =
 
 -- 6 to 10, or what is derived
 unfoldable pub new : Ellipsoid → Settings → Result CassiniSoldner Refusal
-new ellipsoid settings = result_and (validate_settings settings) (Ok (derived ellipsoid settings))
+new ellipsoid settings = result_and (validate_settings (with_origin settings.lon0 settings.lat0 settings.false_easting settings.false_northing)) (Ok (derived ellipsoid settings))
 
 -- Snyder 13-7 and 13-8, with N (4-20), T (8-13), C (8-14), A (8-15)
 unfoldable pub projected : CassiniSoldner → Float → Float → Answer

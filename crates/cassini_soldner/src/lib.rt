@@ -43,7 +43,8 @@ impl CassiniSoldner {
     pub fn new(ellipsoid: Ellipsoid, settings: Settings) -> Result<CassiniSoldner, Refusal>
         ensures { result ≡ new ellipsoid settings }
     {
-        validate_settings(settings)?;
+        // The parallels, which this kind does not have, are not looked at.
+        validate_settings(Settings { lat1: 0.0, lat2: 0.0, ..settings })?;
         Ok(Self::derived(ellipsoid, settings))
     }
 

@@ -21,7 +21,7 @@ use Rattle.authalic.specs.Authalic.{spherical, authalic_q, geodetic_from_authali
 use Rattle.projection.specs.MapEdge.{beyond_edge}
 use Rattle.std.specs.Prelude.{Ok}
 use Rattle.projection.specs.Answer.{pair}
-use Rattle.projection.specs.Checks.{without_origin}
+use Rattle.projection.specs.declared.Settings.{Settings}
 use Rattle.projection.specs.declared.Frame.TheVariants.{Held}
 use Rattle.projection.proofs.AsInSource.{no_origin_as_in_source}
 use Rattle.equal_earth.specs.EqualEarth.{M, MAX_Y, polar_q, derived, new, psi_of_northing, longitude_from_origin, latitude, place, scaled_place}
@@ -37,21 +37,21 @@ rqda_is : (b : Bool) (q_p : Float) → cond b one (root (half ⊗ q_p)) ≡ root
 rqda_is true q_p = sphere_rqda
 rqda_is false q_p = refl
 
-pub derived_as_in_source : (ellipsoid : Ellipsoid) (lon0 false_easting false_northing : Float)
-    → source_derived ellipsoid lon0 false_easting false_northing ≡ derived ellipsoid (without_origin lon0 false_easting false_northing)
+pub derived_as_in_source : (ellipsoid : Ellipsoid) (s : Settings)
+    → source_derived ellipsoid s.lon0 s.false_easting s.false_northing ≡ derived ellipsoid s
 unfolding derived polar_q
-derived_as_in_source ellipsoid lon0 false_easting false_northing =
+derived_as_in_source ellipsoid s =
     let e2 = ellipsoids.e2 ellipsoid in
     let q_p = authalic_q FRAC_PI_2 e2 in
-    ap (λ (r : Float). record { a = ellipsoid.a; e2 = e2; lon0 = lon0; false_easting = false_easting; false_northing = false_northing; q_p = cond (e2 ≈ +0) two q_p; rqda = r })
+    ap (λ (r : Float). record { a = ellipsoid.a; e2 = e2; lon0 = s.lon0; false_easting = s.false_easting; false_northing = s.false_northing; q_p = cond (e2 ≈ +0) two q_p; rqda = r })
     (rqda_is (e2 ≈ +0) q_p)
 
-pub new_as_in_source : (ellipsoid : Ellipsoid) (lon0 false_easting false_northing : Float)
-    → source_new ellipsoid lon0 false_easting false_northing ≡ new ellipsoid (without_origin lon0 false_easting false_northing)
+pub new_as_in_source : (ellipsoid : Ellipsoid) (s : Settings)
+    → source_new ellipsoid s.lon0 s.false_easting s.false_northing ≡ new ellipsoid s
 unfolding new
-new_as_in_source ellipsoid lon0 false_easting false_northing =
-    rw (derived_as_in_source ellipsoid lon0 false_easting false_northing)
-    (no_origin_as_in_source lon0 false_easting false_northing (Ok (derived ellipsoid (without_origin lon0 false_easting false_northing))))
+new_as_in_source ellipsoid s =
+    rw (derived_as_in_source ellipsoid s)
+    (no_origin_as_in_source s.lon0 s.false_easting s.false_northing (Ok (derived ellipsoid s)))
 
 -- ---- the inverse's latitude
 first_true : (a b : Bool) → (a && b) ≡ true → a ≡ true

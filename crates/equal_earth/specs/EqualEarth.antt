@@ -15,7 +15,7 @@ use Rattle.ellipsoid.specs.declared.Ellipsoid.{Ellipsoid}
 use Rattle.refusals.specs.declared.Refusal.{Refusal}
 use Rattle.refusals.specs.declared.Refusal.TheVariants.{OffTheMap}
 use Rattle.authalic.specs.Authalic.{authalic_q, geodetic_from_authalic}
-use Rattle.projection.specs.Checks.{validate_settings, validate_projected}
+use Rattle.projection.specs.Checks.{without_origin, validate_settings, validate_projected}
 use Rattle.projection.specs.Starts.{enter, entered}
 use Rattle.projection.specs.Iteration.{converge}
 use Rattle.projection.specs.Ends.{ensure_finite_xy, finish}
@@ -93,7 +93,7 @@ derived ellipsoid s =
     record { a = ellipsoid.a; e2 = e2 ellipsoid; lon0 = s.lon0; false_easting = s.false_easting; false_northing = s.false_northing; q_p = q_p; rqda = root (half ⊗ q_p) }
 
 unfoldable pub new : Ellipsoid → Settings → Result EqualEarth Refusal
-new ellipsoid s = result_and (validate_settings s) (Ok (derived ellipsoid s))
+new ellipsoid s = result_and (validate_settings (without_origin s.lon0 s.false_easting s.false_northing)) (Ok (derived ellipsoid s))
 
 -- ---- forward
 

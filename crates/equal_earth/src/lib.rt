@@ -107,7 +107,8 @@ impl EqualEarth {
     pub fn new(ellipsoid: Ellipsoid, settings: Settings) -> Result<EqualEarth, Refusal>
         ensures { result ≡ new ellipsoid settings }
     {
-        validate_settings(settings)?;
+        // Latitudes, which this kind does not have, are not looked at.
+        validate_settings(Settings { lat0: 0.0, lat1: 0.0, lat2: 0.0, ..settings })?;
         Ok(Self::derived(ellipsoid, settings))
     }
 

@@ -12,7 +12,7 @@ use Rattle.refusals.specs.declared.Refusal.{Refusal}
 use Rattle.refusals.specs.declared.Refusal.TheVariants.{Sphere}
 use Rattle.meridian.specs.Meridian.{meridian_arc_coefficients, meridian_arc, inverse_meridian_arc}
 use Rattle.projection.specs.Answer.{Answer}
-use Rattle.projection.specs.Checks.{validate_settings, validate_projected}
+use Rattle.projection.specs.Checks.{with_origin, validate_settings, validate_projected}
 use Rattle.projection.specs.Starts.{enter, entered}
 use Rattle.projection.specs.Ends.{ensure_finite_xy, finish}
 use Rattle.projection.specs.declared.Settings.{Settings}
@@ -45,7 +45,7 @@ unfoldable pub checked : GuamProjection → Result GuamProjection Refusal
 checked p = cond (p.e2 ≈ +0) (Err Sphere) (Ok p)
 
 unfoldable pub built : Ellipsoid → Settings → List Float → Result GuamProjection Refusal
-built ellipsoid settings en = result_and (validate_settings settings) (checked (derived ellipsoid settings en))
+built ellipsoid settings en = result_and (validate_settings (with_origin settings.lon0 settings.lat0 settings.false_easting settings.false_northing)) (checked (derived ellipsoid settings en))
 
 -- the meridian numbers stand beside what is built
 unfoldable pub new : Ellipsoid → Settings → NewGuamProjection

@@ -64,7 +64,8 @@ impl GuamProjection {
     ) -> Result<GuamProjection, Refusal>
         ensures { result ≡ built ellipsoid settings en }
     {
-        validate_settings(settings)?;
+        // The parallels, which this kind does not have, are not looked at.
+        validate_settings(Settings { lat1: 0.0, lat2: 0.0, ..settings })?;
         Self::derived(ellipsoid, settings, en).checked()
     }
 

@@ -15,9 +15,10 @@ use Rattle.refusals.specs.declared.Refusal.TheVariants.{PolarQ, OriginNearPole, 
 use Rattle.refusals.proofs.Refused.{and_and}
 use Rattle.authalic.specs.Authalic.{geodetic_from_authalic}
 use Rattle.projection.specs.Answer.{Answer, pair}
-use Rattle.projection.specs.Checks.{passed, with_origin}
+use Rattle.projection.specs.Checks.{passed}
 use Rattle.projection.specs.MapEdge.{beyond_edge}
 use Rattle.projection.specs.declared.Frame.TheVariants.{Held}
+use Rattle.projection.specs.declared.Settings.{Settings}
 use Rattle.projection.proofs.AsInSource.{origin_as_in_source}
 use Rattle.lambert_azimuthal_equal_area.specs.LambertAzimuthalEqualArea.{POLAR_EPSILON, RHO_EPSILON, derived, validate_positive, validate_origin, fault, checked, built}
 use Rattle.lambert_azimuthal_equal_area.specs.Inverse.{judge, judged, bounded_arcsine, polar_place}
@@ -63,12 +64,12 @@ checked_as_in_source p =
     (positive p.q_p PolarQ (result_and o (result_and d (Ok p)))
     ∙ simp and_and)
 
-pub built_as_in_source : (ellipsoid : Ellipsoid) (lon0 lat0 false_easting false_northing : Float) (spherical : Bool)
-    → source_built ellipsoid lon0 lat0 false_easting false_northing spherical ≡ built ellipsoid (with_origin lon0 lat0 false_easting false_northing) spherical
-unfolding built
-built_as_in_source ellipsoid lon0 lat0 false_easting false_northing spherical =
-    let p = derived ellipsoid (with_origin lon0 lat0 false_easting false_northing) spherical in
-    rw (checked_as_in_source p) (origin_as_in_source lon0 lat0 false_easting false_northing (checked p))
+pub built_as_in_source : (ellipsoid : Ellipsoid) (s : Settings) (spherical : Bool)
+    → source_built ellipsoid s.lon0 s.lat0 s.false_easting s.false_northing spherical ≡ built ellipsoid s spherical
+unfolding built derived
+built_as_in_source ellipsoid s spherical =
+    let p = derived ellipsoid s spherical in
+    rw (checked_as_in_source p) (origin_as_in_source s.lon0 s.lat0 s.false_easting s.false_northing (checked p))
 
 -- ---- the first inverse
 

@@ -13,7 +13,7 @@ use Rattle.ellipsoid.specs.declared.Ellipsoid.{Ellipsoid}
 use Rattle.refusals.specs.declared.Refusal.{Refusal}
 use Rattle.refusals.specs.declared.Refusal.TheVariants.{PolarQ, OriginNearPole, OriginScale}
 use Rattle.authalic.specs.Authalic.{authalic_q, authalic_latitude}
-use Rattle.projection.specs.Checks.{Check, passed, validate_settings}
+use Rattle.projection.specs.Checks.{Check, passed, with_origin, validate_settings}
 use Rattle.projection.specs.MapEdge.{EDGE_EPSILON}
 use Rattle.projection.specs.declared.Settings.{Settings}
 use Rattle.lambert_azimuthal_equal_area.specs.declared.Aspect.{Aspect}
@@ -99,7 +99,7 @@ checked p = result_and (fault p) (Ok p)
 
 -- 6 to 10, then 12 to 14, or the projection. specs/AsInSource has the source's words.
 unfoldable pub built : Ellipsoid → Settings → Bool → Result LambertAzimuthalEqualArea Refusal
-built ellipsoid settings spherical = result_and (validate_settings settings) (checked (derived ellipsoid settings spherical))
+built ellipsoid settings spherical = result_and (validate_settings (with_origin settings.lon0 settings.lat0 settings.false_easting settings.false_northing)) (checked (derived ellipsoid settings spherical))
 
 unfoldable pub new : Ellipsoid → Settings → Result LambertAzimuthalEqualArea Refusal
 new ellipsoid settings = built ellipsoid settings false

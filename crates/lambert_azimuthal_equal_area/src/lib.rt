@@ -89,7 +89,8 @@ impl LambertAzimuthalEqualArea {
     fn built(ellipsoid: Ellipsoid, settings: Settings, spherical: bool) -> Result<Self, Refusal>
         ensures { result ≡ built ellipsoid settings spherical }
     {
-        validate_settings(settings)?;
+        // The parallels, which this kind does not have, are not looked at.
+        validate_settings(Settings { lat1: 0.0, lat2: 0.0, ..settings })?;
         Self::derived(ellipsoid, settings, spherical).checked()
     }
 
