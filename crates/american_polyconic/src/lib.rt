@@ -63,7 +63,11 @@ impl AmericanPolyconic {
         ensures { result ≡ built ellipsoid settings en }
     {
         // The parallels, which this kind does not have, are not looked at.
-        validate_settings(Settings { lat1: 0.0, lat2: 0.0, ..settings })?;
+        validate_settings(Settings {
+            lat1: 0.0,
+            lat2: 0.0,
+            ..settings
+        })?;
         Ok(Self::derived(ellipsoid, settings, en))
     }
 

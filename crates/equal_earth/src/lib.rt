@@ -108,7 +108,12 @@ impl EqualEarth {
         ensures { result ≡ new ellipsoid settings }
     {
         // Latitudes, which this kind does not have, are not looked at.
-        validate_settings(Settings { lat0: 0.0, lat1: 0.0, lat2: 0.0, ..settings })?;
+        validate_settings(Settings {
+            lat0: 0.0,
+            lat1: 0.0,
+            lat2: 0.0,
+            ..settings
+        })?;
         Ok(Self::derived(ellipsoid, settings))
     }
 

@@ -65,7 +65,11 @@ impl GuamProjection {
         ensures { result ≡ built ellipsoid settings en }
     {
         // The parallels, which this kind does not have, are not looked at.
-        validate_settings(Settings { lat1: 0.0, lat2: 0.0, ..settings })?;
+        validate_settings(Settings {
+            lat1: 0.0,
+            lat2: 0.0,
+            ..settings
+        })?;
         Self::derived(ellipsoid, settings, en).checked()
     }
 

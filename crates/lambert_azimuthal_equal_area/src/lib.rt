@@ -90,7 +90,11 @@ impl LambertAzimuthalEqualArea {
         ensures { result ≡ built ellipsoid settings spherical }
     {
         // The parallels, which this kind does not have, are not looked at.
-        validate_settings(Settings { lat1: 0.0, lat2: 0.0, ..settings })?;
+        validate_settings(Settings {
+            lat1: 0.0,
+            lat2: 0.0,
+            ..settings
+        })?;
         Self::derived(ellipsoid, settings, spherical).checked()
     }
 
