@@ -36,9 +36,10 @@ pub latitude_param_as_in_source : (value : Float)
 unfolding validate_latitude_param
 latitude_param_as_in_source value = unless (finite value) (Err LatitudeSetting) (cond (LAT_BOUND ≺ abs value) (Err LatitudeSettingBeyond) passed)
 
-pub offset_as_in_source : (value : Float) (refusal : Refusal) → cond (not (finite value)) (Err refusal) passed ≡ validate_offset value refusal
+-- of any refusal, and of every number
+pub offset_as_in_source : {R : Type 0} (value : Float) (refusal : R) → cond (not (finite value)) (Err refusal) (Ok tt) ≡ validate_offset value refusal
 unfolding validate_offset
-offset_as_in_source value refusal = unless (finite value) (Err refusal) passed
+offset_as_in_source value refusal = unless (finite value) (Err refusal) (Ok tt)
 
 pub lon_lat_as_in_source : (lon lat : Float)
     → cond (not (finite lon) || not (finite lat)) (Err ForwardInput) (cond (LAT_BOUND ≺ abs lat) (Err ForwardBeyond) passed) ≡ validate_lon_lat lon lat

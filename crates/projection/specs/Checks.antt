@@ -23,9 +23,9 @@ validate_angle value = cond (finite value) passed (Err Lon0)
 unfoldable pub validate_latitude_param : Float → Check
 validate_latitude_param value = cond (finite value) (cond (LAT_BOUND ≺ abs value) (Err LatitudeSettingBeyond) passed) (Err LatitudeSetting)
 
--- the refusal says which offset it is
-unfoldable pub validate_offset : Float → Refusal → Check
-validate_offset value refusal = cond (finite value) passed (Err refusal)
+-- the refusal says which offset it is, and is of any type: one of document 01's, or a number
+unfoldable pub validate_offset : {R : Type 0} → Float → R → Result ⊤ R
+validate_offset value refusal = cond (finite value) (Ok tt) (Err refusal)
 
 -- of a kind that has lat0 alone, and of one that has no latitude: those that it does not have are 0
 abbrev pub with_origin : Float → Float → Float → Float → Settings

@@ -33,9 +33,9 @@ pub fn validate_latitude_param(value: f64) -> Result<(), Refusal>
     }
 }
 
-// The refusal is this offset's: the false easting's or the false northing's.
+// The refusal is this offset's: the false easting's or the false northing's. It is handed on as it came, whatever type it has.
 #[tactic(auto, unfolding(crate::specs::Checks::validate_offset))]
-pub fn validate_offset(value: f64, refusal: Refusal) -> Result<(), Refusal>
+pub fn validate_offset<R: Copy>(value: f64, refusal: R) -> Result<(), R>
     ensures { result ≡ validate_offset value refusal }
 {
     if is_finite(value) {
