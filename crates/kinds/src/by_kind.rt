@@ -1,5 +1,5 @@
 // What the kind alone says, whatever the area of use is. The kinds share no trait: two take the meridian numbers and two the frame, and what their
-// `new`, `forward` and `inverse` have in common is a line each: `validate_settings(settings)?`, `enter(..)?`, `finish(..)`.
+// `new`, `forward` and `inverse` have in common is a call each: `validate_settings(..)?`, `enter(..)?`, `finish(..)`.
 ghost use Rattle.std.specs.Prelude.{◌≡◌};
 ghost use Rattle.projection.specs.OnTheMap.{OnTheMap};
 ghost use Rattle.kinds.specs.Kinds.{forward_of, formula_of, inverse_of, second_of};
